@@ -1,0 +1,10 @@
+pub mod Compared
+pub mod FirstFound
+pub mod OneReading
+pub mod Order
+pub mod Places
+pub mod Pointers
+pub mod RoundTrip
+pub mod Same
+pub mod Valid
+pub mod Views

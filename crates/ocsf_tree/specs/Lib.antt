@@ -1,0 +1,11 @@
+pub mod formers
+pub mod Code
+pub mod CompactText
+pub mod Data
+pub mod Equal
+pub mod FirstInexact
+pub mod Key
+pub mod Lookup
+pub mod Place
+pub mod Reading
+pub mod Valid

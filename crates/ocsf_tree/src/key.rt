@@ -1,0 +1,42 @@
+use crate::text::Text;
+use crate::try_clone::TryClone;
+use std::alloc::AllocError;
+
+/// Classes and objects have separate spaces of keys.
+#[derive(Clone, Copy, Debug, PartialEq, Eq, PartialOrd, Ord, Hash, Drop)]
+pub enum Side {
+    Class,
+    Object,
+}
+
+/// The full key of a class or an object, printed `class:NAME` or `object:NAME`. Keys are ordered as
+/// these texts are by their bytes.
+#[derive(Debug, PartialEq, Eq, PartialOrd, Ord, Hash, Drop)]
+pub struct Key {
+    pub side: Side,
+    pub name: Text,
+}
+
+impl Side {
+    ghost use Rattle.std.specs.Prelude.{◌≡◌};
+    ghost use Rattle.ocsf_tree.specs.Key.{side_text};
+
+    /// The word before the colon of a printed key.
+    pub fn as_str(&self) -> &'static str
+        ensures { result.now ≡ side_text self.now }
+    {
+        match self {
+            Side::Class => "class",
+            Side::Object => "object",
+        }
+    }
+}
+
+impl TryClone for Key {
+    fn try_clone(&self) -> Result<Key, AllocError> {
+        Ok(Key {
+            side: self.side,
+            name: self.name.copy()?,
+        })
+    }
+}

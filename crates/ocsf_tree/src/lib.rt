@@ -1,0 +1,31 @@
+//! The values that every crate above passes on, and JSON: trees, places, keys and faults, read and
+//! printed exactly.
+#![tactic(auto)]
+
+mod attribute;
+mod equality;
+mod fault;
+mod first_inexact;
+mod key;
+mod place;
+mod printer;
+mod reader;
+mod row;
+mod shared;
+mod text;
+mod text_order;
+mod tree;
+mod try_clone;
+
+pub use attribute::{EnumMember, Requirement, Span};
+pub use equality::is_same;
+pub use fault::{Code, Fault};
+pub use key::{Key, Side};
+pub use place::{Place, Step, place_order, pointer};
+pub use printer::print;
+pub use reader::{TreeError, read};
+pub use row::Row;
+pub use shared::Shared;
+pub use text::Text;
+pub use tree::{Member, Tree};
+pub use try_clone::TryClone;

@@ -1,0 +1,104 @@
+ghost use Rattle.std.specs.Prelude.{◌≡◌, IfOk, false, true, map};
+ghost use Rattle.serde_json.specs.View.{view, items_view, members_view, number_view};
+ghost use Rattle.serde_json.specs.Find.{is_float, of_integer};
+ghost use Rattle.serde_json.specs.Data.{number};
+ghost use Rattle.serde_json.specs.Written.{has_float, items_have_float, members_have_float};
+ghost use Rattle.ocsf_tree.specs.Data.{data_of, list_data, members_data};
+ghost use Rattle.ocsf_tree.specs.Valid.{IsValid};
+ghost use Rattle.ocsf_tree.specs.Reading.{IsReading};
+
+use crate::first_inexact::first_inexact;
+use crate::place::Place;
+use crate::row::Row;
+use crate::text::Text;
+use crate::tree::{Member, Tree};
+use serde_json::{Map, Number, Value};
+use std::alloc::{AllocError, Global};
+
+#[derive(Debug, Drop)]
+pub enum TreeError {
+    NotJson,
+    NumberNotWhole(Place),
+    Memory,
+}
+
+impl From<AllocError> for TreeError {
+    ghost use Rattle.std.specs.Prelude.{◌≡◌};
+    ghost use Rattle.ocsf_tree.specs.declared.reader.TreeError.TheVariants.{Memory};
+
+    ghost from_gives = { λ _ e. e ≡ Memory };
+
+    fn from(_e: AllocError) -> TreeError {
+        TreeError::Memory
+    }
+}
+
+pub fn read(alloc: Global, bytes: &[u8]) -> Result<Tree, TreeError>
+    ensures reads { IsReading bytes.now result }
+    ensures valid { IfOk result IsValid }
+{
+    let value = match Value::from_slice(alloc, bytes) {
+        Ok(value) => value,
+        Err(e) => return Err(if e.is_memory() {
+            TreeError::Memory
+        } else {
+            TreeError::NotJson
+        }),
+    };
+    if let Some(mut steps) = first_inexact(alloc, &value)? {
+        steps.reverse();
+        return Err(TreeError::NumberNotWhole(Place { steps }));
+    }
+    Ok(tree_of(alloc, &value)?)
+}
+
+fn whole_of(number: &Number) -> i128
+    requires { is_float (number_view number.now) ≡ false }
+    ensures { of_integer result ≡ number_view number.now }
+{
+    match number.as_i128() {
+        Some(whole) => whole,
+        None => unreachable!(),
+    }
+}
+
+#[cycle(tree_of)]
+fn tree_of(alloc: Global, value: &Value) -> Result<Tree, AllocError>
+    requires { has_float (view value.now) ≡ false }
+    ensures { IfOk result (λ tree. data_of tree ≡ view value.now) }
+{
+    match value {
+        Value::Null => Ok(Tree::Null),
+        Value::Bool(flag) => Ok(Tree::Flag(*flag)),
+        Value::Number(number) => Ok(Tree::Whole(whole_of(number))),
+        Value::String(words) => Ok(Tree::Words(Text::of(alloc, words.as_str())?)),
+        Value::Array(items) => Ok(Tree::List(list_of(alloc, items.as_slice())?)),
+        Value::Object(members) => Ok(Tree::Members(members_of(alloc, members)?)),
+    }
+}
+
+#[cycle(tree_of)]
+fn list_of(alloc: Global, items: &[Value]) -> Result<Row<Tree>, AllocError>
+    requires { items_have_float (items_view items.now) ≡ false }
+    ensures { IfOk result (λ made. list_data made ≡ items_view items.now) }
+{
+    let mut made = Row::new(alloc);
+    for item in items {
+        made.push(tree_of(alloc, item)?)?;
+    }
+    Ok(made)
+}
+
+#[cycle(tree_of)]
+fn members_of(alloc: Global, members: &Map<String, Value>) -> Result<Row<Member>, AllocError>
+    requires { members_have_float (members_view members.now.entries) ≡ false }
+    ensures { IfOk result (λ made. members_data made ≡ members_view members.now.entries) }
+{
+    let mut made = Row::new(alloc);
+    for (name, member) in members.iter() {
+        let name = Text::of(alloc, name.as_str())?;
+        let value = tree_of(alloc, member)?;
+        made.push(Member { name, value })?;
+    }
+    Ok(made)
+}

@@ -1,0 +1,88 @@
+ghost use Rattle.std.specs.Prelude.{◌≡◌, IfOk};
+ghost use Rattle.std.specs.Option.{IfSome, option_copied};
+ghost use Rattle.ocsf_tree.specs.Lookup.{member_at, member_in};
+ghost use Rattle.ocsf_tree.specs.Valid.{IsValid};
+
+use crate::row::Row;
+use crate::text::Text;
+use std::alloc::AllocError;
+
+#[cycle(tree)]
+#[derive(Debug, Drop)]
+pub enum Tree {
+    Null,
+    Flag(bool),
+    Whole(i128),
+    Words(Text),
+    List(Row<Tree>),
+    Members(Row<Member>),
+}
+
+#[cycle(tree)]
+#[derive(Debug, Drop)]
+pub struct Member {
+    pub name: Text,
+    pub value: Tree,
+}
+
+impl Tree {
+    /// The value of the member of that name.
+    pub fn at(&self, name: &str) -> Option<&Tree>
+        ensures found { option_copied result ≡ member_at name.now self.now }
+        ensures valid { IsValid self.now → IfSome result (λ tree. IsValid tree.now) }
+    {
+        match self {
+            Tree::Members(members) => find(members.as_slice(), name),
+            _ => None,
+        }
+    }
+
+    #[cycle(copy)]
+    pub fn copy(&self) -> Result<Tree, AllocError>
+        ensures { IfOk result (λ made. made ≡ self.now) }
+    {
+        match self {
+            Tree::Null => Ok(Tree::Null),
+            Tree::Flag(flag) => Ok(Tree::Flag(*flag)),
+            Tree::Whole(whole) => Ok(Tree::Whole(*whole)),
+            Tree::Words(words) => Ok(Tree::Words(words.copy()?)),
+            Tree::List(items) => Ok(Tree::List(copy_items(items)?)),
+            Tree::Members(members) => Ok(Tree::Members(copy_members(members)?)),
+        }
+    }
+}
+
+fn find<'a>(members: &'a [Member], name: &str) -> Option<&'a Tree>
+    ensures { option_copied result ≡ member_in name.now members.now }
+{
+    for member in members {
+        if member.name.as_str() == name {
+            return Some(&member.value);
+        }
+    }
+    None
+}
+
+#[cycle(copy)]
+fn copy_items(items: &Row<Tree>) -> Result<Row<Tree>, AllocError>
+    ensures { IfOk result (λ made. made ≡ items.now) }
+{
+    let mut made = Row::new(items.allocator());
+    for item in items.as_slice() {
+        made.push(item.copy()?)?;
+    }
+    Ok(made)
+}
+
+#[cycle(copy)]
+fn copy_members(members: &Row<Member>) -> Result<Row<Member>, AllocError>
+    ensures { IfOk result (λ made. made ≡ members.now) }
+{
+    let mut made = Row::new(members.allocator());
+    for member in members.as_slice() {
+        let name = member.name.copy()?;
+        let value = member.value.copy()?;
+        made.push(Member { name, value })?;
+    }
+    Ok(made)
+}
