@@ -1,5 +1,6 @@
 pub mod Compared
 pub mod FirstFound
+pub mod NameLists
 pub mod OneReading
 pub mod Order
 pub mod Places

@@ -1,4 +1,5 @@
 pub mod formers
+pub mod ByName
 pub mod Code
 pub mod CompactText
 pub mod Data

@@ -3,6 +3,7 @@
 #![tactic(auto)]
 
 mod attribute;
+mod by_name;
 mod equality;
 mod fault;
 mod first_inexact;
@@ -18,6 +19,7 @@ mod tree;
 mod try_clone;
 
 pub use attribute::{EnumMember, Requirement, Span};
+pub use by_name::{Named, find_by_name};
 pub use equality::is_same;
 pub use fault::{Code, Fault};
 pub use key::{Key, Side};
