@@ -11,7 +11,7 @@ use Rattle.ocsf_tree.specs.declared.place.Step.{Step}
 use Rattle.ocsf_tree.specs.declared.place.Step.TheVariants.{At, Name}
 use Rattle.ocsf_tree.specs.Place.{place_cmp}
 use Rattle.ocsf_tree.specs.FirstInexact.{or_else, first, first_item, first_member}
-use Rattle.ocsf_tree.specs.Reading.{look, IsInexactAt, IsFirstInexact}
+use Rattle.ocsf_tree.specs.Reading.{value_at, IsInexactAt, IsFirstInexact}
 use Rattle.ocsf_tree.proofs.Order.{AllAfter, InOrder, ItemsInOrder, MembersInOrder, IfSomeIs}
 
 -- ---- none was found
@@ -61,13 +61,13 @@ chosen Q Equal here later q = inl (refl, q)
 chosen Q Greater here later q = inr ((λ e. cc), q)
 
 abbrev IsFloatIn : Option Data → List Step → Float → Type 0
-IsFloatIn o p x = option_and_then (look p) o ≡ Some (number (float x))
+IsFloatIn o p x = option_and_then (value_at p) o ≡ Some (number (float x))
 
 float_of_itself : (d : Data) (x : Float) → Some d ≡ Some (number (float x)) → has_float d ≡ false → ⊥
 float_of_itself d x e h = true≢false (sym (ap (λ o. unwrap_or (option_map has_float o) false) e) ∙ h)
 
 mutual
-  pub no_float_at : (d : Data) → has_float d ≡ false → (p : List Step) (x : Float) → look p d ≡ Some (number (float x)) → ⊥
+  pub no_float_at : (d : Data) → has_float d ≡ false → (p : List Step) (x : Float) → value_at p d ≡ Some (number (float x)) → ⊥
   no_float_at d h [] x e = float_of_itself d x e h
   no_float_at null h (At i ∷ p) x e = cc
   no_float_at null h (Name n ∷ p) x e = cc
@@ -176,7 +176,7 @@ join_member k d ms None (Some p) a none f g =
 whole_array : (ds : Items) (o : Option (List Step)) → IfSomeIs (FirstIn 0 ds) o → IfSomeIs (IsFirstInexact (array ds)) o
 whole_array ds None f = tt
 whole_array ds (Some p) f = (
-  (f.0.2, ap (λ q. look q (array ds)) f.0.3 ∙ ap (λ i. look (At i ∷ f.0.1) (array ds)) (zero-add f.0.0) ∙ f.0.4),
+  (f.0.2, ap (λ q. value_at q (array ds)) f.0.3 ∙ ap (λ i. value_at (At i ∷ f.0.1) (array ds)) (zero-add f.0.0) ∙ f.0.4),
   least,
 )
   where
@@ -187,7 +187,7 @@ whole_array ds (Some p) f = (
 
 whole_object : (ms : Members) (o : Option (List Step)) → IfSomeIs (FirstOf ms) o → IfSomeIs (IsFirstInexact (object ms)) o
 whole_object ms None f = tt
-whole_object ms (Some p) f = ((f.0.2, ap (λ q. look q (object ms)) f.0.3 ∙ f.0.4), least)
+whole_object ms (Some p) f = ((f.0.2, ap (λ q. value_at q (object ms)) f.0.3 ∙ f.0.4), least)
   where
     least : (q : List Step) → IsInexactAt (object ms) q → place_cmp p q ≡ Greater → ⊥
     least [] e g = cc e.1

@@ -1,10 +1,11 @@
 pub mod Compared
 pub mod FirstFound
+pub mod Joined
 pub mod NameLists
-pub mod OneReading
 pub mod Order
 pub mod Places
 pub mod Pointers
+pub mod Readings
 pub mod RoundTrip
 pub mod Same
 pub mod Valid

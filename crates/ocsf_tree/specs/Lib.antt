@@ -6,6 +6,7 @@ pub mod Data
 pub mod Equal
 pub mod FirstInexact
 pub mod Key
+pub mod Laws
 pub mod Lookup
 pub mod Place
 pub mod Reading

@@ -8,6 +8,7 @@ mod equality;
 mod fault;
 mod first_inexact;
 mod key;
+mod laws;
 mod place;
 mod printer;
 mod reader;
@@ -23,8 +24,11 @@ pub use by_name::{Named, find_by_name};
 pub use equality::is_same;
 pub use fault::{Code, Fault};
 pub use key::{Key, Side};
+pub use laws::{
+    every_text_reads, places_are_ordered, prints_join, prints_tell_trees_apart, reads_one_way,
+};
 pub use place::{Place, Step, place_order, pointer};
-pub use printer::print;
+pub use printer::{print, quote};
 pub use reader::{TreeError, read};
 pub use row::Row;
 pub use shared::Shared;

@@ -1,14 +1,11 @@
 ghost use Rattle.std.specs.Prelude.{◌≡◌, IfOk, OnOk, ◌++◌, ◌∷◌, [], ◌≤◌, true};
-ghost use Rattle.serde_json.specs.Data.{depth as nesting};
-ghost use Rattle.serde_json.specs.Read.{max_depth};
-ghost use Rattle.ocsf_tree.specs.declared.tree.Tree.{Tree};
-ghost use Rattle.ocsf_tree.specs.Reading.{IsReading};
+ghost use Rattle.ocsf_tree.specs.Reading.{IsReading, nesting};
 ghost use Rattle.json.specs.Token.{number};
 ghost use Rattle.json.specs.Tree.{json_tokens, items_tokens, members_tokens};
 ghost use Rattle.serde_json.specs.Find.{of_integer};
 ghost use Rattle.serde_json.specs.Written.{outline, items_outline, members_outline, number_text};
 ghost use Rattle.ocsf_tree.specs.Data.{data_of, list_data, members_data};
-ghost use Rattle.ocsf_tree.specs.CompactText.{text};
+ghost use Rattle.ocsf_tree.specs.CompactText.{text, quoted_text};
 ghost use Rattle.ocsf_tree.specs.Valid.{IsValid, IsValidList, IsValidMembers, is_whole};
 
 use crate::row::Row;
@@ -20,13 +17,19 @@ use std::alloc::{AllocError, Global};
 pub fn print(alloc: Global, tree: &Tree) -> Result<Row<u8>, AllocError>
     requires { IsValid tree.now }
     ensures text { IfOk result (λ bytes. bytes ≡ text tree.now) }
-    ensures reads_back { IfOk result (λ bytes. nesting (data_of tree.now) ≤ max_depth
-        → IsReading bytes (Ok tree.now)) }
-    ensures only { IfOk result (λ bytes. (other : Tree) → IsValid other
-        → bytes ≡ text other → tree.now ≡ other) }
+    ensures reads_back { IfOk result (λ bytes. nesting tree.now ≤ 127 → IsReading bytes (Ok tree.now)) }
 {
     let mut out = Writer::new(Vec::with_capacity(alloc, 128)?);
     write(tree, &mut out)?;
+    Ok(Row::from_vec(out.into_inner()))
+}
+
+/// The text in quotation marks, as it stands in a compact text.
+pub fn quote(alloc: Global, text: &str) -> Result<Row<u8>, AllocError>
+    ensures { IfOk result (λ bytes. bytes ≡ quoted_text text.now) }
+{
+    let mut out = Writer::new(Vec::new(alloc));
+    out.string(text)?;
     Ok(Row::from_vec(out.into_inner()))
 }
 

@@ -1,11 +1,11 @@
-ghost use Rattle.std.specs.Prelude.{◌≡◌, IfOk, false, true, map};
+ghost use Rattle.std.specs.Prelude.{◌≡◌, ◌≤◌, IfOk, false, true, map};
 ghost use Rattle.serde_json.specs.View.{view, items_view, members_view, number_view};
 ghost use Rattle.serde_json.specs.Find.{is_float, of_integer};
 ghost use Rattle.serde_json.specs.Data.{number};
 ghost use Rattle.serde_json.specs.Written.{has_float, items_have_float, members_have_float};
 ghost use Rattle.ocsf_tree.specs.Data.{data_of, list_data, members_data};
 ghost use Rattle.ocsf_tree.specs.Valid.{IsValid};
-ghost use Rattle.ocsf_tree.specs.Reading.{IsReading};
+ghost use Rattle.ocsf_tree.specs.Reading.{IsReading, nesting};
 
 use crate::first_inexact::first_inexact;
 use crate::place::Place;
@@ -36,6 +36,7 @@ impl From<AllocError> for TreeError {
 pub fn read(alloc: Global, bytes: &[u8]) -> Result<Tree, TreeError>
     ensures reads { IsReading bytes.now result }
     ensures valid { IfOk result IsValid }
+    ensures nests { IfOk result (λ tree. nesting tree ≤ 127) }
 {
     let value = match Value::from_slice(alloc, bytes) {
         Ok(value) => value,

@@ -102,6 +102,16 @@ impl<T: Drop> Row<T> {
     }
 }
 
+impl Row<u8> {
+    /// Appends the bytes.
+    pub fn extend_from_slice(&mut self, bytes: &[u8]) -> Result<(), AllocError>
+        ensures ok { OnOk result (self.new ≡ self.old ++ bytes.now) }
+        ensures err { OnErr result (self.new ≡ self.old) }
+    {
+        self.items.extend_from_slice(bytes)
+    }
+}
+
 impl<T: TryClone> Row<T> {
     /// A list of clones of these items.
     pub fn of(alloc: Global, items: &[T]) -> Result<Row<T>, AllocError>

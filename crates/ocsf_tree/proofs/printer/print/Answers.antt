@@ -6,8 +6,7 @@ use Rattle.serde_json.proofs.Texts.{print-outline}
 use Rattle.serde_json.specs.Read.{read}
 use Rattle.ocsf_tree.specs.Data.{data_of}
 use Rattle.ocsf_tree.specs.CompactText.{text}
-use Rattle.ocsf_tree.proofs.RoundTrip.{read-text, data_by_text}
-use Rattle.ocsf_tree.proofs.Same.{trees_by_data}
+use Rattle.ocsf_tree.proofs.RoundTrip.{read-text}
 use Rattle.ocsf_tree.proofs.printer.print.Goals as goal
 
 pub returns : goal.returns
@@ -19,6 +18,5 @@ returns c =
     let utf8 : IsUtf8 (text c.args.tree.now) = subst IsUtf8 (ap print tokens ∙ print-outline d) c.into_inner.ensures.utf8 in
     record {
       text = same;
-      reads_back = λ shallow. (subst IsUtf8 (sym same) utf8, ap read same ∙ read-text d c.requires shallow, c.requires);
-      only = λ other valid is. trees_by_data c.args.tree.now other (data_by_text d (data_of other) c.requires valid (sym same ∙ is));
+      reads_back = λ shallow. ((subst IsUtf8 (sym same) utf8, ap read same ∙ read-text d c.requires shallow), c.requires);
     }

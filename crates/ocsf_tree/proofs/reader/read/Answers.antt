@@ -12,7 +12,7 @@ returns-in-Some-clause-reads c =
     let d = view c.in-Ok.value in
     let reads = c.in-Ok.ensures.ok in
     let found : Some c.reverse.new.self ≡ first d = ap Some c.reverse.ensures ∙ ap (option_map reverse) (sym c.in-Some.is) ∙ c.in_ok-steps.ensures in
-    (reads.0, d, reads.1, subst (IfSomeIs (IsFirstInexact d)) (sym found) (first_found d (read-InOrder c.args.bytes.now d reads.1)))
+    (d, reads, subst (IfSomeIs (IsFirstInexact d)) (sym found) (first_found d (read-InOrder c.args.bytes.now d reads.1)))
 
 pub tree_of-requires : goal.tree_of-requires
 tree_of-requires c =
@@ -24,7 +24,7 @@ returns-clause-reads c =
     let reads = c.in-Ok.ensures.ok in
     let whole = none_first d (sym c.in_ok-steps.ensures ∙ ap (option_map reverse) c.in_default.is) in
     let valid = is_valid-InOrder d (read-InOrder c.args.bytes.now d reads.1) whole in
-    (reads.0, reads.1 ∙ ap Some (sym c.in_ok-tree_of.ensures), subst (λ e. is_valid e ≡ true) (sym c.in_ok-tree_of.ensures) valid)
+    ((reads.0, reads.1 ∙ ap Some (sym c.in_ok-tree_of.ensures)), subst (λ e. is_valid e ≡ true) (sym c.in_ok-tree_of.ensures) valid)
 
 pub returns-clause-valid : goal.returns-clause-valid
 returns-clause-valid c =
