@@ -8,5 +8,6 @@ pub mod Pointers
 pub mod Readings
 pub mod RoundTrip
 pub mod Same
+pub mod Search
 pub mod Valid
 pub mod Views

@@ -88,7 +88,7 @@ first_member_valid m ms v = and_parts (is_valid (data_of m.value)) _ (and_parts 
 members_cons : (m : Member) (ms : List Member) → is_before m.name (members_data ms) ≡ true → IsValid m.value → IsValidMembers ms → IsValidMembers (m ∷ ms)
 members_cons m ms b v w = both (is_before m.name (members_data ms)) _ b (both (is_valid (data_of m.value)) (members_valid (members_data ms)) v w)
 
-earlier_than_all : (m : Member) (ms : List Member) → IsValidMembers (m ∷ ms) → All (IsEarlier m) ms
+pub earlier_than_all : (m : Member) (ms : List Member) → IsValidMembers (m ∷ ms) → All (IsEarlier m) ms
 earlier_than_all m [] v = All-nil (IsEarlier m)
 earlier_than_all m (l ∷ ms) v =
     let first : IsEarlier m l = less_so (slice_cmp nat_cmp m.name l.name) (and_parts (is_before m.name (members_data (l ∷ ms))) _ v).0 in

@@ -1,7 +1,7 @@
 ghost use Rattle.std.specs.Prelude.{◌≡◌, IfOk};
 ghost use Rattle.std.specs.Option.{IfSome, option_copied};
 ghost use Rattle.ocsf_tree.specs.Lookup.{member_at, member_in};
-ghost use Rattle.ocsf_tree.specs.Valid.{IsValid};
+ghost use Rattle.ocsf_tree.specs.Valid.{IsValid, IsValidMembers};
 
 use crate::row::Row;
 use crate::text::Text;
@@ -26,10 +26,11 @@ pub struct Member {
 }
 
 impl Tree {
-    /// The value of the member of that name.
+    /// The value of the member of that name. It takes time logarithmic in the number of members.
     pub fn at(&self, name: &str) -> Option<&Tree>
+        requires { IsValid self.now }
         ensures found { option_copied result ≡ member_at name.now self.now }
-        ensures valid { IsValid self.now → IfSome result (λ tree. IsValid tree.now) }
+        ensures valid { IfSome result (λ tree. IsValid tree.now) }
     {
         match self {
             Tree::Members(members) => find(members.as_slice(), name),
@@ -53,14 +54,13 @@ impl Tree {
 }
 
 fn find<'a>(members: &'a [Member], name: &str) -> Option<&'a Tree>
+    requires { IsValidMembers members.now }
     ensures { option_copied result ≡ member_in name.now members.now }
 {
-    for member in members {
-        if member.name.as_str() == name {
-            return Some(&member.value);
-        }
+    match members.binary_search_by(|member| member.name.as_str().cmp(&name)) {
+        Ok(index) => Some(&members[index].value),
+        Err(_) => None,
     }
-    None
 }
 
 #[cycle(copy)]
