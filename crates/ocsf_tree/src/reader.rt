@@ -50,7 +50,7 @@ pub fn read(alloc: Global, bytes: &[u8]) -> Result<Tree, TreeError>
         steps.reverse();
         return Err(TreeError::NumberNotWhole(Place { steps }));
     }
-    Ok(tree_of(alloc, &value)?)
+    Ok(tree_of(alloc, value)?)
 }
 
 fn whole_of(number: &Number) -> i128
@@ -63,27 +63,28 @@ fn whole_of(number: &Number) -> i128
     }
 }
 
+// The texts of the value are moved into the tree.
 #[cycle(tree_of)]
-fn tree_of(alloc: Global, value: &Value) -> Result<Tree, AllocError>
-    requires { has_float (view value.now) ≡ false }
-    ensures { IfOk result (λ tree. data_of tree ≡ view value.now) }
+fn tree_of(alloc: Global, value: Value) -> Result<Tree, AllocError>
+    requires { has_float (view value) ≡ false }
+    ensures { IfOk result (λ tree. data_of tree ≡ view value) }
 {
     match value {
         Value::Null => Ok(Tree::Null),
-        Value::Bool(flag) => Ok(Tree::Flag(*flag)),
-        Value::Number(number) => Ok(Tree::Whole(whole_of(number))),
-        Value::String(words) => Ok(Tree::Words(Text::of(alloc, words.as_str())?)),
-        Value::Array(items) => Ok(Tree::List(list_of(alloc, items.as_slice())?)),
+        Value::Bool(flag) => Ok(Tree::Flag(flag)),
+        Value::Number(number) => Ok(Tree::Whole(whole_of(&number))),
+        Value::String(words) => Ok(Tree::Words(Text::from_string(words))),
+        Value::Array(items) => Ok(Tree::List(list_of(alloc, items)?)),
         Value::Object(members) => Ok(Tree::Members(members_of(alloc, members)?)),
     }
 }
 
 #[cycle(tree_of)]
-fn list_of(alloc: Global, items: &[Value]) -> Result<Row<Tree>, AllocError>
-    requires { items_have_float (items_view items.now) ≡ false }
-    ensures { IfOk result (λ made. list_data made ≡ items_view items.now) }
+fn list_of(alloc: Global, items: Vec<Value>) -> Result<Row<Tree>, AllocError>
+    requires { items_have_float (items_view items.items) ≡ false }
+    ensures { IfOk result (λ made. list_data made ≡ items_view items.items) }
 {
-    let mut made = Row::new(alloc);
+    let mut made = Row::from_vec(Vec::with_capacity(alloc, items.len())?);
     for item in items {
         made.push(tree_of(alloc, item)?)?;
     }
@@ -91,13 +92,13 @@ fn list_of(alloc: Global, items: &[Value]) -> Result<Row<Tree>, AllocError>
 }
 
 #[cycle(tree_of)]
-fn members_of(alloc: Global, members: &Map<String, Value>) -> Result<Row<Member>, AllocError>
-    requires { members_have_float (members_view members.now.entries) ≡ false }
-    ensures { IfOk result (λ made. members_data made ≡ members_view members.now.entries) }
+fn members_of(alloc: Global, members: Map<String, Value>) -> Result<Row<Member>, AllocError>
+    requires { members_have_float (members_view members.entries) ≡ false }
+    ensures { IfOk result (λ made. members_data made ≡ members_view members.entries) }
 {
-    let mut made = Row::new(alloc);
-    for (name, member) in members.iter() {
-        let name = Text::of(alloc, name.as_str())?;
+    let mut made = Row::from_vec(Vec::with_capacity(alloc, members.len())?);
+    for (name, member) in members {
+        let name = Text::from_string(name);
         let value = tree_of(alloc, member)?;
         made.push(Member { name, value })?;
     }
