@@ -1,0 +1,3 @@
+pub mod Print
+pub mod Schema
+pub mod Joining

@@ -1,0 +1,16 @@
+//! The compiled schema: its records, the printed fragment of an item, and the printed schema.
+#![tactic(auto)]
+
+mod fragment;
+mod parts;
+mod piece;
+mod printing;
+mod records;
+mod schema;
+mod steps;
+
+pub use parts::SchemaParts;
+pub use piece::Piece;
+pub use records::{Attr, Base, Item, Kind, Limit, Target};
+pub use schema::Schema;
+pub use steps::Steps;

@@ -1,0 +1,64 @@
+// An item with its printed fragment.
+ghost use Rattle.std.specs.Prelude.{◌≡◌, ◌+◌, ℕ, IfOk, All};
+ghost use Rattle.ocsf_tree.specs.ByName.{IsByName};
+
+use crate::fragment::fragment_of;
+use crate::{Item, Steps};
+use ocsf_tree::{Row, print};
+use std::alloc::{AllocError, Global};
+use std::marker::Model;
+use std::sync::ledger::Ledger;
+
+/// A compiled item with its fragment of the printed schema; contracts see the item.
+#[derive(Drop)]
+pub struct Piece {
+    item: Item,
+    text: Row<u8>,
+}
+
+impl Model for Piece {
+    ghost use Rattle.std.specs.Prelude.{◌≡◌};
+    ghost use Rattle.ocsf_schema.specs.declared.records.Item.{Item};
+
+    ghost Value = { Item };
+
+    ghost use Rattle.ocsf_schema.specs.Print.{fragment};
+
+    ghost view = { λ piece. piece.item };
+
+    ghost invariant = { λ piece. piece.text ≡ fragment piece.item };
+}
+
+impl Piece {
+    ghost use Rattle.ocsf_schema.specs.Print.{fragment};
+
+    /// Prints the fragment of the item, which is one step of compiling. No other call makes a piece.
+    pub fn of<L: Ledger>(
+        alloc: Global,
+        item: Item,
+        steps: &mut Steps<L>,
+    ) -> Result<Piece, AllocError>
+        requires attributes { IsByName (λ attr. attr.name) item.attrs }
+        requires members { All (λ attr. IsByName (λ member. member.key) attr.members) item.attrs }
+        ensures item { IfOk result (λ piece. piece ≡ item) }
+        ensures step { steps.new ≡ steps.old + 1 }
+    {
+        steps.tick();
+        let tree = fragment_of(alloc, &item)?;
+        let text = print(alloc, &tree)?;
+        Ok(Piece { item, text })
+    }
+
+    pub fn item(&self) -> &Item
+        ensures { result.now ≡ self.now }
+    {
+        &self.item
+    }
+
+    /// The fragment of the printed schema.
+    pub fn text(&self) -> &[u8]
+        ensures { result.now ≡ fragment self.now }
+    {
+        self.text.as_slice()
+    }
+}

@@ -1,0 +1,97 @@
+// The compiled records, as the layers above the compiler read them.
+use ocsf_tree::{EnumMember, Key, Requirement, Row, Span, Text, Tree};
+
+/// The built-in types that every type leads to.
+#[derive(Clone, Copy, Debug, PartialEq, Eq)]
+pub enum Base {
+    /// `boolean_t`
+    Boolean,
+    /// `string_t`
+    Words,
+    /// `integer_t`
+    Integer,
+    /// `long_t`
+    Long,
+    /// `float_t`
+    Float,
+    /// `json_t`
+    Json,
+}
+
+/// What one type on the way to a base asks of a value.
+#[derive(Debug, Drop)]
+pub struct Limit {
+    /// The type that asks it.
+    pub type_name: Text,
+    /// The most Unicode characters of a text.
+    pub max_len: Option<u64>,
+    /// The least and the greatest whole number, both allowed.
+    pub range: Option<Span>,
+    /// A pattern that is searched in a text.
+    pub pattern: Option<Text>,
+    /// Whether a text has to be an instant.
+    pub instant: bool,
+    /// The only values allowed.
+    pub values: Option<Row<Tree>>,
+}
+
+/// A data type: its base, and the limits on the way to it, its own first.
+#[derive(Debug, Drop)]
+pub struct Kind {
+    pub name: Text,
+    pub base: Base,
+    pub limits: Row<Limit>,
+}
+
+/// What the type of an attribute leads to.
+#[derive(Debug, Drop)]
+pub enum Target {
+    /// The data type of that name.
+    Simple(Text),
+    /// The object of that key.
+    Object(Text),
+    /// The open object, which may hold anything.
+    Anything,
+}
+
+/// An attribute of a compiled item.
+#[derive(Debug, Drop)]
+pub struct Attr {
+    pub name: Text,
+    pub caption: Option<Text>,
+    pub description: Option<Text>,
+    pub target: Target,
+    pub is_array: bool,
+    pub requirement: Requirement,
+    /// The key of the profile that the attribute belongs to.
+    pub profile: Option<Text>,
+    pub group: Option<Text>,
+    /// The attribute that holds the caption of this one's value.
+    pub sibling: Option<Text>,
+    /// The members of the enumeration, strictly by key.
+    pub members: Row<EnumMember>,
+}
+
+/// A compiled class or object.
+#[derive(Debug, Drop)]
+pub struct Item {
+    pub key: Key,
+    pub caption: Option<Text>,
+    pub description: Option<Text>,
+    /// The key of the parent.
+    pub parent: Option<Text>,
+    /// Whether it only serves others as a base.
+    pub hidden: bool,
+    /// The key of a class's category.
+    pub category: Option<Text>,
+    pub category_uid: Option<u32>,
+    pub class_uid: Option<u64>,
+    /// The keys of its profiles, in byte order.
+    pub profiles: Row<Text>,
+    /// Attributes of which one or more are asked for.
+    pub at_least_one: Row<Text>,
+    /// Attributes of which exactly one is asked for.
+    pub just_one: Row<Text>,
+    /// Its attributes, strictly by name.
+    pub attrs: Row<Attr>,
+}
