@@ -10,7 +10,7 @@ use Rattle.ocsf_tree.specs.declared.tree.Tree.{Tree}
 use Rattle.ocsf_tree.specs.declared.tree.Member.{Member}
 use Rattle.ocsf_tree.specs.Data.{data_of, list_data, members_data}
 use Rattle.ocsf_tree.specs.Valid.{is_before, is_whole, is_valid, are_valid, members_valid}
-use Rattle.ocsf_tree.specs.Equal.{same_flag, same_number, same, same_items, same_members}
+use Rattle.ocsf_tree.specs.Equality.{same_flag, same_number, same, same_items, same_members}
 
 pub other_lengths : (xs ys : List Tree) → (length xs ≡ length ys → ⊥) → same_items (list_data xs) (list_data ys) ≡ false
 other_lengths [] [] h = absurd (h refl)

@@ -3,7 +3,7 @@ pub mod ByName
 pub mod Code
 pub mod CompactText
 pub mod Data
-pub mod Equal
+pub mod Equality
 pub mod FirstInexact
 pub mod Key
 pub mod Laws

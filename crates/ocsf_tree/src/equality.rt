@@ -1,11 +1,11 @@
 ghost use Rattle.std.specs.Prelude.{◌≡◌, IsTrue, ◌↔◌, length, true};
 ghost use Rattle.ocsf_tree.specs.Data.{data_of, list_data, members_data};
 ghost use Rattle.ocsf_tree.specs.Valid.{IsValid};
-ghost use Rattle.ocsf_tree.specs.Equal.{same, same_items, same_members};
+ghost use Rattle.ocsf_tree.specs.Equality.{same, same_items, same_members};
 
 use crate::tree::{Member, Tree};
 
-/// Whether two trees are equal. It takes no memory.
+/// Whether two trees are equal.
 pub fn is_same(a: &Tree, b: &Tree) -> bool
     requires { IsValid a.now }
     ensures { IsTrue result ↔ (a.now ≡ b.now) }

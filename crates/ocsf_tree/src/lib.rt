@@ -14,6 +14,8 @@ mod printer;
 mod reader;
 mod row;
 mod shared;
+#[cfg(test)]
+mod tests;
 mod text;
 mod text_order;
 mod tree;

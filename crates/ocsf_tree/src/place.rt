@@ -8,12 +8,14 @@ use crate::try_clone::TryClone;
 use std::alloc::{AllocError, Global};
 use std::cmp::Ordering;
 
+/// The way from a list to an item, by its position from 0, or from an object to a member's value.
 #[derive(Debug, PartialEq, Eq, PartialOrd, Ord, Drop)]
 pub enum Step {
     At(u64),
     Name(Text),
 }
 
+/// The way from the root of a tree to a value in it. The root itself has no steps.
 #[derive(Debug, Drop)]
 pub struct Place {
     pub steps: Row<Step>,
@@ -30,7 +32,8 @@ fn step_order(a: &Step, b: &Step) -> Ordering
     }
 }
 
-/// Which place comes first: a prefix, then a lower position, then a name, by its bytes.
+/// Which place is earlier: a prefix before what is below it, positions by number and before names, names by
+/// their bytes.
 pub fn place_order(a: &Place, b: &Place) -> Ordering
     ensures { result ≡ place_cmp a.now.steps b.now.steps }
 {
@@ -88,7 +91,7 @@ fn push_step(alloc: Global, out: &mut String, step: &Step) -> Result<(), AllocEr
     }
 }
 
-/// The JSON Pointer of RFC 6901.
+/// The JSON Pointer to a place, by sections 3 and 4 of RFC 6901.
 pub fn pointer(alloc: Global, place: &Place) -> Result<Text, AllocError>
     ensures { IfOk result (λ made. made ≡ pointer_text place.now.steps) }
 {
@@ -117,7 +120,7 @@ impl TryClone for Place {
 }
 
 impl Place {
-    /// The place one step below.
+    /// The place one step below, from the allocator of this one.
     pub fn below(&self, step: Step) -> Result<Place, AllocError>
         ensures { IfOk result (λ made. made.steps ≡ self.now.steps ++ step ∷ []) }
     {

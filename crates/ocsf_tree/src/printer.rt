@@ -13,7 +13,7 @@ use crate::tree::{Member, Tree};
 use json::Writer;
 use std::alloc::{AllocError, Global};
 
-/// The compact text.
+/// The compact text: no blank, no line feed at the end, the members in byte order, the shortest escapes.
 pub fn print(alloc: Global, tree: &Tree) -> Result<Row<u8>, AllocError>
     requires { IsValid tree.now }
     ensures text { IfOk result (λ bytes. bytes ≡ text tree.now) }

@@ -15,10 +15,16 @@ use crate::tree::{Member, Tree};
 use serde_json::{Map, Number, Value};
 use std::alloc::{AllocError, Global};
 
+/// Why bytes are no tree.
 #[derive(Debug, Drop)]
 pub enum TreeError {
+    /// They are no JSON text of RFC 8259 in UTF-8, their brackets nest deeper than 127, or they hold a
+    /// number beyond a 64-bit float.
     NotJson,
+    /// At this place, and at none before it, stands a number that isn't written as a whole number, or that
+    /// is neither a signed nor an unsigned 64-bit one.
     NumberNotWhole(Place),
+    /// Memory has run out.
     Memory,
 }
 
@@ -33,6 +39,7 @@ impl From<AllocError> for TreeError {
     }
 }
 
+/// The tree of a JSON text. Of the members of an object that have one name the last stays.
 pub fn read(alloc: Global, bytes: &[u8]) -> Result<Tree, TreeError>
     ensures reads { IsReading bytes.now result }
     ensures valid { IfOk result IsValid }

@@ -7,6 +7,9 @@ use crate::row::Row;
 use crate::text::Text;
 use std::alloc::AllocError;
 
+/// A JSON value. It is valid (`IsValid`) where at every depth whole numbers are signed or unsigned 64-bit
+/// ones and the members of an object stand strictly in the order of their names' bytes. Every call that
+/// takes a tree asks for a valid one, and every tree that a call gives is valid.
 #[cycle(tree)]
 #[derive(Debug, Drop)]
 pub enum Tree {
@@ -18,6 +21,7 @@ pub enum Tree {
     Members(Row<Member>),
 }
 
+/// A member of an object.
 #[cycle(tree)]
 #[derive(Debug, Drop)]
 pub struct Member {
@@ -38,6 +42,7 @@ impl Tree {
         }
     }
 
+    /// An equal tree, from the allocators of this one.
     #[cycle(copy)]
     pub fn copy(&self) -> Result<Tree, AllocError>
         ensures { IfOk result (λ made. made ≡ self.now) }

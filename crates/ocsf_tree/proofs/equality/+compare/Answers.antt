@@ -1,6 +1,6 @@
 use Rattle.std.proofs.Common.{sym, ap, ap₂, ◌∙◌, ne_eqb}
 use Rattle.ocsf_tree.specs.Data.{data_of, members_data}
-use Rattle.ocsf_tree.specs.Equal.{same, same_members}
+use Rattle.ocsf_tree.specs.Equality.{same, same_members}
 use Rattle.ocsf_tree.proofs.Views.{data_of-List, data_of-Members}
 use Rattle.ocsf_tree.proofs.Compared.{other_lengths, other_counts}
 use Rattle.ocsf_tree.proofs.equality.+compare.Goals as goal

@@ -1,6 +1,6 @@
 use Rattle.std.proofs.Common.{◌≡◌, drop}
 use Rattle.ocsf_tree.specs.Data.{list_data, members_data}
-use Rattle.ocsf_tree.specs.Equal.{same_items, same_members}
+use Rattle.ocsf_tree.specs.Equality.{same_items, same_members}
 use Rattle.ocsf_tree.proofs.equality.+compare.Given as goal
 
 abbrev pub invariant-compare_items-loop-index : goal.invariant-compare_items-loop-index

@@ -1,6 +1,6 @@
 use Rattle.std.proofs.Common.{sym, ap, ◌∙◌}
 use Rattle.ocsf_tree.specs.Data.{data_of}
-use Rattle.ocsf_tree.specs.Equal.{same}
+use Rattle.ocsf_tree.specs.Equality.{same}
 use Rattle.ocsf_tree.proofs.Compared.{same_is, same_itself}
 use Rattle.ocsf_tree.proofs.Same.{trees_by_data}
 use Rattle.ocsf_tree.proofs.equality.is_same.Goals as goal
