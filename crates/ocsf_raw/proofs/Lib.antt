@@ -1,0 +1,4 @@
+pub mod EachOf
+pub mod FirstForms
+pub mod MembersByName
+pub mod Parts

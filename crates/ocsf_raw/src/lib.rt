@@ -1,0 +1,17 @@
+//! The files of a bundle as they are written: their paths, their shapes, and the records that hold
+//! their content.
+#![tactic(auto)]
+
+mod attribute;
+mod dictionary;
+mod files;
+mod first_edit;
+mod names;
+mod path_form;
+
+pub use attribute::{Mark, RawAttr};
+pub use dictionary::{DictEntry, DictFile, TypeEntry};
+pub use files::{CategoryEntry, ExtFile, ItemFile, ProfileFile, RawFile};
+pub use first_edit::{FirstPut, first_form};
+pub use names::{is_name, is_path, is_reference};
+pub use path_form::{Form, form_of, has_form};
