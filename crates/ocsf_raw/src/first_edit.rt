@@ -6,7 +6,7 @@ ghost use Rattle.std.specs.List.{list_any};
 ghost use Rattle.std.specs.Str.{bytes_eq};
 ghost use Rattle.std.specs.Option.{option_copied};
 ghost use Rattle.ocsf_tree.specs.Lookup.{member_at};
-ghost use Rattle.ocsf_tree.specs.Valid.{IsValid};
+ghost use Rattle.ocsf_tree.specs.Valid.{IsValid, IsValidList, IsValidMembers};
 ghost use Rattle.ocsf_raw.specs.FirstForm.{are_among, has_only, text_at, caption_of, base_type_of, dictionary_entry, dictionary, each_of, requirement_named, given_requirement, item_entry, given_entries, is_object_path, object_named, object, put_at, first_put, first_form_of, IsOrdered};
 
 use crate::attribute::{Mark, RawAttr};
@@ -48,6 +48,7 @@ fn has_only(names: &[&str], tree: &Tree) -> bool
 }
 
 fn text_at<'a>(name: &str, tree: &'a Tree) -> Option<&'a Text>
+    requires { IsValid tree.now }
     ensures { option_copied result ≡ text_at name.now tree.now }
 {
     match tree.at(name) {
@@ -57,6 +58,7 @@ fn text_at<'a>(name: &str, tree: &'a Tree) -> Option<&'a Text>
 }
 
 fn caption_of(tree: &Tree) -> Result<Option<Option<Text>>, AllocError>
+    requires { IsValid tree.now }
     ensures { IfOk result (λ found. found ≡ caption_of tree.now) }
 {
     match tree.at("caption") {
@@ -67,6 +69,7 @@ fn caption_of(tree: &Tree) -> Result<Option<Option<Text>>, AllocError>
 }
 
 fn base_type_of(tree: &Tree) -> Result<Option<Text>, AllocError>
+    requires { IsValid tree.now }
     ensures { IfOk result (λ found. found ≡ base_type_of tree.now) }
 {
     let Some(name) = text_at("type", tree) else {
@@ -88,6 +91,7 @@ fn base_type_of(tree: &Tree) -> Result<Option<Text>, AllocError>
 }
 
 fn dictionary_entry(alloc: Global, member: &Member) -> Result<Option<DictEntry>, AllocError>
+    requires { IsValid member.now.value }
     ensures { IfOk result (λ found. found ≡ dictionary_entry member.now) }
 {
     if !is_name(member.name.as_str()) || !has_only(&["caption", "type"], &member.value) {
@@ -114,6 +118,7 @@ fn dictionary_entries(
     alloc: Global,
     members: &[Member],
 ) -> Result<Option<Row<DictEntry>>, AllocError>
+    requires { IsValidMembers members.now }
     ensures { IfOk result (λ found. found ≡ each_of dictionary_entry members.now) }
 {
     let mut made = Row::new(alloc);
@@ -127,6 +132,7 @@ fn dictionary_entries(
 }
 
 fn dictionary(alloc: Global, body: &Tree) -> Result<Option<DictFile>, AllocError>
+    requires { IsValid body.now }
     ensures { IfOk result (λ found. found ≡ dictionary body.now) }
 {
     if !has_only(&["attributes"], body) {
@@ -159,6 +165,7 @@ fn requirement_named(text: &str) -> Option<Requirement>
 }
 
 fn given_requirement(tree: &Tree) -> Option<Option<Requirement>>
+    requires { IsValid tree.now }
     ensures { result ≡ given_requirement (member_at (codes "requirement") tree.now) }
 {
     match tree.at("requirement") {
@@ -172,6 +179,7 @@ fn given_requirement(tree: &Tree) -> Option<Option<Requirement>>
 }
 
 fn item_entry(alloc: Global, member: &Member) -> Result<Option<RawAttr>, AllocError>
+    requires { IsValid member.now.value }
     ensures { IfOk result (λ found. found ≡ item_entry member.now) }
 {
     if !is_name(member.name.as_str()) || !has_only(&["requirement"], &member.value) {
@@ -196,6 +204,7 @@ fn item_entry(alloc: Global, member: &Member) -> Result<Option<RawAttr>, AllocEr
 }
 
 fn item_entries(alloc: Global, members: &[Member]) -> Result<Option<Row<RawAttr>>, AllocError>
+    requires { IsValidMembers members.now }
     ensures { IfOk result (λ found. found ≡ each_of item_entry members.now) }
 {
     let mut made = Row::new(alloc);
@@ -209,6 +218,7 @@ fn item_entries(alloc: Global, members: &[Member]) -> Result<Option<Row<RawAttr>
 }
 
 fn given_entries(alloc: Global, body: &Tree) -> Result<Option<Row<RawAttr>>, AllocError>
+    requires { IsValid body.now }
     ensures { IfOk result
         (λ found. found ≡ given_entries (member_at (codes "attributes") body.now)) }
 {
@@ -232,6 +242,7 @@ fn is_object_path(alloc: Global, path: &str, name: &str) -> Result<bool, AllocEr
 }
 
 fn object_named(alloc: Global, name: &Text, body: &Tree) -> Result<Option<ItemFile>, AllocError>
+    requires { IsValid body.now }
     ensures { IfOk result (λ found. found ≡ object_named name.now body.now) }
 {
     let Some(caption) = caption_of(body)? else {
@@ -257,6 +268,7 @@ fn object_named(alloc: Global, name: &Text, body: &Tree) -> Result<Option<ItemFi
 }
 
 fn object(alloc: Global, path: &str, body: &Tree) -> Result<Option<ItemFile>, AllocError>
+    requires { IsValid body.now }
     ensures { IfOk result (λ found. found ≡ object path.now body.now) }
 {
     if !has_only(&["attributes", "caption", "name"], body) {
@@ -273,6 +285,7 @@ fn object(alloc: Global, path: &str, body: &Tree) -> Result<Option<ItemFile>, Al
 }
 
 fn put_at(alloc: Global, path: &str, body: &Tree) -> Result<Option<FirstPut>, AllocError>
+    requires { IsValid body.now }
     ensures { IfOk result (λ found. found ≡ put_at path.now body.now) }
 {
     if path == "dictionary.json" {
@@ -289,6 +302,7 @@ fn put_at(alloc: Global, path: &str, body: &Tree) -> Result<Option<FirstPut>, Al
 }
 
 fn first_put(alloc: Global, change: &Tree) -> Result<Option<FirstPut>, AllocError>
+    requires { IsValid change.now }
     ensures { IfOk result (λ found. found ≡ first_put change.now) }
 {
     if !has_only(&["body", "put"], change) {
@@ -304,6 +318,7 @@ fn first_put(alloc: Global, change: &Tree) -> Result<Option<FirstPut>, AllocErro
 }
 
 fn first_puts(alloc: Global, changes: &[Tree]) -> Result<Option<Row<FirstPut>>, AllocError>
+    requires { IsValidList changes.now }
     ensures { IfOk result (λ found. found ≡ each_of first_put changes.now) }
 {
     let mut made = Row::new(alloc);

@@ -6,6 +6,7 @@ mod attribute;
 mod dictionary;
 mod files;
 mod first_edit;
+mod named;
 mod names;
 mod path_form;
 

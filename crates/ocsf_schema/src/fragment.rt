@@ -1,38 +1,11 @@
 // The printed fragment of an item, as a tree.
-ghost use Rattle.std.specs.Prelude.{◌≡◌, ◌<◌, ◌^◌, [], ◌∷◌, ◌++◌, IfOk, OnOk, IfSome, Some};
-ghost use Rattle.ocsf_schema.specs.Print.{shown, words, number, flag, texts, enum_member_tree, enum_member, enumeration, requirement_text, type_text, object_key, attribute_tree, attribute_member, constraints, fragment_tree};
-ghost use Rattle.std.specs.Prelude.{map};
-ghost use Rattle.ocsf_tree.specs.declared.tree.Tree.TheVariants as tree;
+ghost use Rattle.std.specs.Prelude.{◌≡◌, ◌<◌, ◌^◌, IfOk, OnOk, IfSome, map};
+ghost use Rattle.ocsf_schema.specs.Print.{words, number, requirement_text, type_text, object_key, attribute_tree, attribute_member, constraints, fragment_tree};
 
+use crate::fields::{enumeration_field, flag_field, put_field, texts_field, word_field, words_field};
 use crate::{Attr, Item, Target};
-use ocsf_tree::{EnumMember, Member, Requirement, Row, Text, Tree};
+use ocsf_tree::{Member, Requirement, Row, Tree};
 use std::alloc::{AllocError, Global};
-
-/// Adds the member, where it has a value.
-fn put(members: &mut Row<Member>, name: &str, value: Option<Tree>) -> Result<(), AllocError>
-    ensures { OnOk result (members.new ≡ members.old ++ shown (name.now, value)) }
-{
-    if let Some(value) = value {
-        let name = Text::of(members.allocator(), name)?;
-        members.push(Member { name, value })?;
-    }
-    Ok(())
-}
-
-fn words_of(text: &Option<Text>) -> Result<Option<Tree>, AllocError>
-    ensures { IfOk result (λ made. made ≡ words text.now) }
-{
-    match text {
-        Some(text) => Ok(Some(Tree::Words(text.copy()?))),
-        None => Ok(None),
-    }
-}
-
-fn word(alloc: Global, text: &str) -> Result<Option<Tree>, AllocError>
-    ensures { IfOk result (λ made. made ≡ Some (tree.Words text.now)) }
-{
-    Ok(Some(Tree::Words(Text::of(alloc, text)?)))
-}
 
 fn category_uid_of(item: &Item) -> Option<Tree>
     ensures tree { result ≡ number item.now.category_uid }
@@ -51,65 +24,6 @@ fn class_uid_of(item: &Item) -> Option<Tree>
     match item.class_uid {
         Some(uid) => Some(Tree::Whole(i128::from(uid))),
         None => None,
-    }
-}
-
-fn flag_of(is_set: bool) -> Option<Tree>
-    ensures { result ≡ flag is_set }
-{
-    if is_set { Some(Tree::Flag(true)) } else { None }
-}
-
-fn all_words(alloc: Global, list: &[Text]) -> Result<Row<Tree>, AllocError>
-    ensures { IfOk result (λ made. made ≡ map tree.Words list.now) }
-{
-    let mut made = Row::new(alloc);
-    for text in list {
-        made.push(Tree::Words(text.copy()?))?;
-    }
-    Ok(made)
-}
-
-fn texts_of(alloc: Global, list: &[Text]) -> Result<Option<Tree>, AllocError>
-    ensures { IfOk result (λ made. made ≡ texts list.now) }
-{
-    match list {
-        [] => Ok(None),
-        [..] => Ok(Some(Tree::List(all_words(alloc, list)?))),
-    }
-}
-
-fn enum_member_of(alloc: Global, member: &EnumMember) -> Result<Tree, AllocError>
-    ensures { IfOk result (λ made. made ≡ enum_member_tree member.now) }
-{
-    let mut members = Row::new(alloc);
-    put(
-        &mut members,
-        "caption",
-        word(alloc, member.caption.as_str())?,
-    )?;
-    put(&mut members, "description", words_of(&member.description)?)?;
-    Ok(Tree::Members(members))
-}
-
-fn enum_members(alloc: Global, list: &[EnumMember]) -> Result<Row<Member>, AllocError>
-    ensures { IfOk result (λ made. made ≡ map enum_member list.now) }
-{
-    let mut made = Row::new(alloc);
-    for member in list {
-        let name = member.key.copy()?;
-        let value = enum_member_of(alloc, member)?;
-        made.push(Member { name, value })?;
-    }
-    Ok(made)
-}
-
-fn enumeration_of(alloc: Global, list: &[EnumMember]) -> Result<Option<Tree>, AllocError>
-    ensures { IfOk result (λ made. made ≡ enumeration list.now) }
-{
-    match list {
-        [] => Ok(None),
-        [..] => Ok(Some(Tree::Members(enum_members(alloc, list)?))),
     }
 }
 
@@ -145,24 +59,24 @@ fn attribute_of(alloc: Global, attr: &Attr) -> Result<Tree, AllocError>
     ensures { IfOk result (λ made. made ≡ attribute_tree attr.now) }
 {
     let mut members = Row::new(alloc);
-    put(&mut members, "caption", words_of(&attr.caption)?)?;
-    put(&mut members, "description", words_of(&attr.description)?)?;
-    put(
+    put_field(&mut members, "caption", words_field(&attr.caption)?)?;
+    put_field(&mut members, "description", words_field(&attr.description)?)?;
+    put_field(
         &mut members,
         "enum",
-        enumeration_of(alloc, attr.members.as_slice())?,
+        enumeration_field(alloc, attr.members.as_slice())?,
     )?;
-    put(&mut members, "group", words_of(&attr.group)?)?;
-    put(&mut members, "is_array", flag_of(attr.is_array))?;
-    put(&mut members, "object", object_of(&attr.target)?)?;
-    put(&mut members, "profile", words_of(&attr.profile)?)?;
-    put(
+    put_field(&mut members, "group", words_field(&attr.group)?)?;
+    put_field(&mut members, "is_array", flag_field(attr.is_array))?;
+    put_field(&mut members, "object", object_of(&attr.target)?)?;
+    put_field(&mut members, "profile", words_field(&attr.profile)?)?;
+    put_field(
         &mut members,
         "requirement",
-        word(alloc, requirement_of(attr.requirement))?,
+        word_field(alloc, requirement_of(attr.requirement))?,
     )?;
-    put(&mut members, "sibling", words_of(&attr.sibling)?)?;
-    put(&mut members, "type", word(alloc, type_of(&attr.target))?)?;
+    put_field(&mut members, "sibling", words_field(&attr.sibling)?)?;
+    put_field(&mut members, "type", word_field(alloc, type_of(&attr.target))?)?;
     Ok(Tree::Members(members))
 }
 
@@ -185,15 +99,15 @@ fn constraints_of(alloc: Global, item: &Item) -> Result<Option<Tree>, AllocError
         return Ok(None);
     }
     let mut members = Row::new(alloc);
-    put(
+    put_field(
         &mut members,
         "at_least_one",
-        texts_of(alloc, item.at_least_one.as_slice())?,
+        texts_field(alloc, item.at_least_one.as_slice())?,
     )?;
-    put(
+    put_field(
         &mut members,
         "just_one",
-        texts_of(alloc, item.just_one.as_slice())?,
+        texts_field(alloc, item.just_one.as_slice())?,
     )?;
     Ok(Some(Tree::Members(members)))
 }
@@ -206,19 +120,19 @@ pub fn fragment_of(alloc: Global, item: &Item) -> Result<Tree, AllocError>
 {
     let mut members = Row::new(alloc);
     let attributes = Tree::Members(attributes_of(alloc, item.attrs.as_slice())?);
-    put(&mut members, "attributes", Some(attributes))?;
-    put(&mut members, "caption", words_of(&item.caption)?)?;
-    put(&mut members, "category", words_of(&item.category)?)?;
-    put(&mut members, "category_uid", category_uid_of(item))?;
-    put(&mut members, "class_uid", class_uid_of(item))?;
-    put(&mut members, "constraints", constraints_of(alloc, item)?)?;
-    put(&mut members, "description", words_of(&item.description)?)?;
-    put(&mut members, "extends", words_of(&item.parent)?)?;
-    put(&mut members, "hidden", flag_of(item.hidden))?;
-    put(
+    put_field(&mut members, "attributes", Some(attributes))?;
+    put_field(&mut members, "caption", words_field(&item.caption)?)?;
+    put_field(&mut members, "category", words_field(&item.category)?)?;
+    put_field(&mut members, "category_uid", category_uid_of(item))?;
+    put_field(&mut members, "class_uid", class_uid_of(item))?;
+    put_field(&mut members, "constraints", constraints_of(alloc, item)?)?;
+    put_field(&mut members, "description", words_field(&item.description)?)?;
+    put_field(&mut members, "extends", words_field(&item.parent)?)?;
+    put_field(&mut members, "hidden", flag_field(item.hidden))?;
+    put_field(
         &mut members,
         "profiles",
-        texts_of(alloc, item.profiles.as_slice())?,
+        texts_field(alloc, item.profiles.as_slice())?,
     )?;
     Ok(Tree::Members(members))
 }

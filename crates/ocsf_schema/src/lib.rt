@@ -1,6 +1,7 @@
 //! The compiled schema: its records, the printed fragment of an item, and the printed schema.
 #![tactic(auto)]
 
+mod fields;
 mod fragment;
 mod parts;
 mod piece;
@@ -9,6 +10,9 @@ mod records;
 mod schema;
 mod steps;
 
+pub use fields::{
+    enumeration_field, flag_field, put_field, texts_field, word_field, words_field,
+};
 pub use parts::SchemaParts;
 pub use piece::Piece;
 pub use records::{Attr, Base, Item, Kind, Limit, Target};

@@ -5,6 +5,7 @@ ghost use Rattle.ocsf_tree.specs.Valid.{IsValid, IsValidMembers};
 
 use crate::row::Row;
 use crate::text::Text;
+use crate::try_clone::TryClone;
 use std::alloc::AllocError;
 
 /// A JSON value. It is valid (`IsValid`) where at every depth whole numbers are signed or unsigned 64-bit
@@ -90,4 +91,10 @@ fn copy_members(members: &Row<Member>) -> Result<Row<Member>, AllocError>
         made.push(Member { name, value })?;
     }
     Ok(made)
+}
+
+impl TryClone for Tree {
+    fn try_clone(&self) -> Result<Tree, AllocError> {
+        self.copy()
+    }
 }
