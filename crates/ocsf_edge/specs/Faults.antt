@@ -17,4 +17,4 @@ pub record HasCause {T E : Type 0} (before now : ℕ) (result : Result T E) : Ty
 pub record HasCauseOrMemory {T : Type 0} (before now : ℕ) (result : Result T Fail) : Type 0 where
   pub later : before ≤ now
   pub failed : IsErrOf result Failed → Rose before now
-  pub kept : (IsErrOf result Failed → ⊥) → now ≡ before
+  pub kept : ¬ IsErrOf result Failed → now ≡ before

@@ -17,7 +17,8 @@ pub trait Folder {
 
     /// The paths below the base, in byte order.
     fn list(&mut self, base: &str) -> Result<Seq<Bytes>, Fail>
-        ensures paths { IfOk result (λ paths. IfSome (files self.old) (λ told. IsListing base.now told paths)) }
+        ensures paths { IfOk result (λ paths. IfSome (files self.old) (λ told.
+            IsListing base.now told paths)) }
         ensures same { files self.new ≡ files self.old }
         ensures cause { HasCauseOrMemory (folder_faults self.old) (folder_faults self.new) result };
 

@@ -23,7 +23,8 @@ pub trait Keeper {
 
     /// Applies the moves in order and sets the revision, all or nothing.
     fn commit(&mut self, moves: &[Move], revision: u32) -> Result<(), Fail>
-        ensures ok { OnOk result (tables self.new ≡ option_map (committed moves.now revision) (tables self.old)) }
+        ensures ok { OnOk result (tables self.new
+            ≡ option_map (committed moves.now revision) (tables self.old)) }
         ensures err { OnErr result (tables self.new ≡ tables self.old) }
         ensures cause { HasCauseOrMemory (keeper_faults self.old) (keeper_faults self.new) result };
 

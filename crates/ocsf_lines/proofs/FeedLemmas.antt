@@ -1,9 +1,8 @@
 -- What is answered of a stream, one line and one piece after another.
-use Rattle.std.proofs.Common.{◌≡◌, ℕ, ◌+◌, ◌-◌, ◌<◌, ◌≤◌, ◌^◌, min, List, [], ◌∷◌, ◌++◌, length, take, Option, Bool, true, false, ◌||◌, ◌⊎◌, ⊎_elim, refl, sym, ◌∙◌, ap, subst, append_assoc, arith, length-append}
+use Rattle.std.proofs.Common.{◌≡◌, ℕ, ◌+◌, ◌-◌, ◌≤◌, ◌^◌, List, [], ◌∷◌, ◌++◌, length, take, Option, Bool, false, ◌||◌, ⊎_elim, refl, sym, ◌∙◌, ap, subst, append_assoc, arith, length-append}
 use Rattle.std.proofs.Math.Seq.{take-append-add}
 use Rattle.std.proofs.lemmas.List.{append-nil, take_all, take-append-le, length-take, nil_from_length}
 use Rattle.std.proofs.lemmas.Bool.{cases_lt}
-use Rattle.std.specs.Io.KnownBytes.{Appends}
 use Rattle.ocsf_edge.proofs.Known.{Appends-none, Appends-append}
 use Rattle.ocsf_lines.specs.Lines.{lf, HasNoLf, whole_lines, rest_of}
 use Rattle.ocsf_lines.specs.Run.{StepOf, Run, OutputFront}
@@ -134,7 +133,7 @@ FeedCut-after Step print most wa wb wc a b xs ys zs ha hb fa fb p q = record {
   front = λ start before bo fed l after.
       let first : length (before ++ xs) ≤ 2 ^ 40 = omega (arith, length-append before (xs ++ (ys ++ zs)), length-append xs (ys ++ zs), length-append before xs) in
       let second : length ((before ++ xs) ++ ys) ≤ 2 ^ 40 =
-          omega (arith, length-append before (xs ++ (ys ++ zs)), length-append xs (ys ++ zs), length-append ys zs, length-append before xs, length-append (before ++ xs) ys) in
+      omega (arith, length-append before (xs ++ (ys ++ zs)), length-append xs (ys ++ zs), length-append ys zs, length-append before xs, length-append (before ++ xs) ys) in
       let f = q.front start (before ++ xs) (bo ++ p.out) (p.goes_on start before bo fed first) second (zs ++ after) in
       let bytes : ((before ++ xs) ++ ys) ++ (zs ++ after) ≡ (before ++ (xs ++ (ys ++ zs))) ++ after = simp append_assoc in
       subst (λ (bs : List ℕ). OutputFront Step print start bs (bo ++ (p.out ++ q.out))) bytes

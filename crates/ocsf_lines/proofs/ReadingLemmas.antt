@@ -1,15 +1,15 @@
 -- A run over a source, one piece after another, and how it ends.
-use Rattle.std.proofs.Common.{◌≡◌, ◌≢◌, ℕ, ◌+◌, ◌-◌, ◌^◌, ◌≤◌, ◌<◌, List, [], ◌++◌, length, take, Option, None, Some, IfSome, Bool, true, false, refl, sym, ◌∙◌, ap, subst, arith, length-append}
+use Rattle.std.proofs.Common.{◌≡◌, ◌≢◌, ℕ, ◌+◌, ◌^◌, ◌≤◌, ◌<◌, List, [], ◌++◌, length, take, Option, None, Some, IfSome, Bool, true, false, refl, sym, ◌∙◌, ap, subst, arith, length-append}
 use Rattle.std.proofs.lemmas.Bool.{false≢true}
 use Rattle.std.proofs.lemmas.List.{append-nil, take-append-le, length-take}
-use Rattle.std.specs.Io.KnownBytes.{Appends, Consumes, Keeps}
+use Rattle.std.specs.Io.KnownBytes.{Consumes, Keeps}
 use Rattle.ocsf_edge.specs.Faults.{Rose}
 use Rattle.ocsf_edge.proofs.Known.{Appends-none, Appends-append, Consumes-none, Consumes-append, Consumes-keeps}
 use Rattle.ocsf_lines.specs.Run.{StepOf, Output, OutputFront, Replies}
 use Rattle.ocsf_lines.specs.Exchange.{Exchange}
 use Rattle.ocsf_lines.specs.Ends.{IfEnded, IsEndedOrMemory, IsLimitOrMemory, ReadsCause, WritesCause, end_of}
-use Rattle.ocsf_lines.specs.Feeding.{Fed, Feeds, FeedCut}
-use Rattle.ocsf_lines.specs.Closing.{Closes, CloseCut, ClosesBy}
+use Rattle.ocsf_lines.specs.Feeding.{Fed, FeedCut}
+use Rattle.ocsf_lines.specs.Closing.{CloseCut, ClosesBy}
 use Rattle.ocsf_lines.specs.Reading.{Reading, Answers, LinesRan}
 use Rattle.ocsf_lines.specs.declared.lines_end.LinesEnd.{LinesEnd}
 use Rattle.ocsf_lines.specs.declared.lines_end.LinesEnd.TheVariants.{Ended, ReadFault, WriteFault, Memory, Limit}

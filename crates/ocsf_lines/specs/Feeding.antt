@@ -1,5 +1,5 @@
 -- What a machine has answered of the bytes so far, and what one call does to that.
-use Rattle.std.specs.Prelude.{◌≡◌, ℕ, ◌+◌, ◌^◌, ◌≤◌, List, ◌++◌, Bool, ◌||◌, length, take, Option, Result, OnOk, IsErrOf}
+use Rattle.std.specs.Prelude.{◌≡◌, ℕ, ◌+◌, ◌^◌, ◌≤◌, List, ◌++◌, Bool, ◌||◌, length, take, Option, Result, IsErrOf}
 use Rattle.std.specs.Io.KnownBytes.{Appends}
 use Rattle.ocsf_edge.specs.Faults.{Rose}
 use Rattle.ocsf_lines.specs.Lines.{whole_lines, rest_of}
@@ -51,4 +51,4 @@ pub record Feeding {S : Type 0} (Step : StepOf S) (most : ℕ) (written_old writ
 -- A call stops at a write fault only where the count rose, and else leaves the count as it was.
 pub record StopCause {T : Type 0} (before now : ℕ) (result : Result T Stop) : Type 0 where
   pub failed : IsErrOf result WriteFault → Rose before now
-  pub kept : (IsErrOf result WriteFault → ⊥) → now ≡ before
+  pub kept : ¬ IsErrOf result WriteFault → now ≡ before

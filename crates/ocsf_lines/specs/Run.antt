@@ -10,7 +10,9 @@ StepOf S = S → List ℕ → List ℕ → Bool → S → Type 0
 abbrev pub Run : {S : Type 0} → StepOf S → S → List (List ℕ) → List ℕ → Bool → S → Type 0
 Run Step old [] out flawed new = (out ≡ []) × (flawed ≡ false) × (new ≡ old)
 Run {S} Step old (line ∷ lines) out flawed new =
-    (reply : List ℕ) × (one : Bool) × (next : S) × (more : List ℕ) × (others : Bool) × Step old line reply one next × Run Step next lines more others new × (out ≡ reply ++ more) × (flawed ≡ one || others)
+    (reply : List ℕ) × (one : Bool) × (next : S) × (more : List ℕ) × (others : Bool)
+    × Step old line reply one next × Run Step next lines more others new
+    × (out ≡ reply ++ more) × (flawed ≡ one || others)
 
 -- The whole output over these bytes: a reply to each line, and the print of the last state.
 pub record Output {S : Type 0} (Step : StepOf S) (print : S → List ℕ) (start : S) (bytes out : List ℕ) (flawed : Bool) : Type 0 where

@@ -23,7 +23,8 @@ fn split_line(bytes: &[u8]) -> Option<(&[u8], &[u8])>
 
 // Holds these bytes too, as long as no more than `most + 1` are held.
 fn hold(held: &mut Vec<u8>, bytes: &[u8], most: usize) -> Result<(), AllocError>
-    ensures { OnOk result (held.new.items ≡ held.old.items ++ take (most + 1 - length held.old.items) bytes.now) }
+    ensures { OnOk result (held.new.items
+        ≡ held.old.items ++ take (most + 1 - length held.old.items) bytes.now) }
 {
     if held.len() <= most {
         let room = (most - held.len()).saturating_add(1);
@@ -61,7 +62,8 @@ fn end_line<M: LineMachine, K: Sink>(
 ) -> Result<(), Stop>
     requires { HasNoLf line.now }
     ensures ok { OnOk result (Feeds M.Step M.MOST (K.written sink.old) (K.written sink.new)
-        (M.state machine.old) (M.state machine.new) (line.now ++ lf ∷ []) held.old.items held.new.items flawed.old flawed.new) }
+        (M.state machine.old) (M.state machine.new) (line.now ++ lf ∷ [])
+        held.old.items held.new.items flawed.old flawed.new) }
     ensures err { OnErr result (FeedCut M.Step M.print M.MOST (K.written sink.old) (K.written sink.new)
         (M.state machine.old) (line.now ++ lf ∷ []) held.old.items flawed.old) }
     ensures cause { StopCause (K.write_faults sink.old) (K.write_faults sink.new) result }
@@ -85,7 +87,8 @@ pub fn feed<M: LineMachine, K: Sink>(
     sink: &mut K,
 ) -> Result<(), Stop>
     ensures ok { OnOk result (Feeds M.Step M.MOST (K.written sink.old) (K.written sink.new)
-        (M.state machine.old) (M.state machine.new) piece.now held.old.items held.new.items flawed.old flawed.new) }
+        (M.state machine.old) (M.state machine.new) piece.now
+        held.old.items held.new.items flawed.old flawed.new) }
     ensures err { OnErr result (FeedCut M.Step M.print M.MOST (K.written sink.old) (K.written sink.new)
         (M.state machine.old) piece.now held.old.items flawed.old) }
     ensures cause { StopCause (K.write_faults sink.old) (K.write_faults sink.new) result }

@@ -13,3 +13,6 @@ mod stop;
 pub use lines_end::LinesEnd;
 pub use machine::{LineMachine, Reply};
 pub use reading::run_lines;
+
+#[cfg(test)]
+mod tests;

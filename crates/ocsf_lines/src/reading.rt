@@ -1,5 +1,6 @@
 // A source is read to its end in pieces, and its lines are answered as they come.
 ghost use Rattle.std.specs.Prelude.{◌≡◌, ◌≢◌, ◌<◌, ◌^◌, length, true, false, IfSome};
+ghost use Rattle.std.specs.Io.KnownBytes.{IsAtEnd};
 ghost use Rattle.ocsf_edge.specs.Faults.{Rose};
 ghost use Rattle.ocsf_lines.specs.Run.{Output, OutputFront, Replies};
 ghost use Rattle.ocsf_lines.specs.Exchange.{Exchange};
@@ -25,34 +26,39 @@ pub fn run_lines<M: LineMachine, S: Source, K: Sink>(
     source: &mut S,
     sink: &mut K,
 ) -> LinesEnd
-    // At the end of the source the whole output was written.
-    ensures ended { IfEnded result (λ flawed. Exchange (S.left source.old) (S.left source.new)
-        (K.written sink.old) (K.written sink.new)
+    // At the end of the source the whole output over all of its bytes was written.
+    ensures ended { IfEnded result (λ flawed. Exchange
+        (S.left source.old) (S.left source.new) (K.written sink.old) (K.written sink.new)
         (λ taken out. Output M.Step M.print (M.state machine.old) taken out flawed)) }
     ensures has_ended { IfEnded result (λ flawed. S.has_ended source.new ≡ true) }
+    ensures nothing_left { IfEnded result (λ flawed. IsAtEnd (S.left source.new)) }
 
-    // At a read fault and at the limit no more than the replies to the lines that a LF ended.
-    ensures read_fault { result ≡ LinesEnd.ReadFault → Exchange (S.left source.old) (S.left source.new)
-        (K.written sink.old) (K.written sink.new)
+    // At a read fault and at the limit, just the replies to the lines that a LF ended.
+    ensures read_fault { result ≡ LinesEnd.ReadFault → Exchange
+        (S.left source.old) (S.left source.new) (K.written sink.old) (K.written sink.new)
         (λ taken out. Replies M.Step (M.state machine.old) taken out) }
-    ensures limit { result ≡ LinesEnd.Limit → Exchange (S.left source.old) (S.left source.new)
-        (K.written sink.old) (K.written sink.new)
+    ensures limit { result ≡ LinesEnd.Limit → Exchange
+        (S.left source.old) (S.left source.new) (K.written sink.old) (K.written sink.new)
         (λ taken out. Replies M.Step (M.state machine.old) taken out × (length taken ≡ 2 ^ 40)) }
     ensures open { result ≡ LinesEnd.Limit → S.has_ended source.new ≡ S.has_ended source.old }
 
-    // At a write fault and where there is no memory a front of an output.
-    ensures write_fault { result ≡ LinesEnd.WriteFault → Exchange (S.left source.old) (S.left source.new)
-        (K.written sink.old) (K.written sink.new)
+    // At a write fault, and where there was no memory, a front of an output.
+    ensures write_fault { result ≡ LinesEnd.WriteFault → Exchange
+        (S.left source.old) (S.left source.new) (K.written sink.old) (K.written sink.new)
         (λ taken out. OutputFront M.Step M.print (M.state machine.old) taken out) }
-    ensures memory { result ≡ LinesEnd.Memory → Exchange (S.left source.old) (S.left source.new)
-        (K.written sink.old) (K.written sink.new)
+    ensures memory { result ≡ LinesEnd.Memory → Exchange
+        (S.left source.old) (S.left source.new) (K.written sink.old) (K.written sink.new)
         (λ taken out. OutputFront M.Step M.print (M.state machine.old) taken out) }
 
-    // A fault is the object's own, and at no other end has the object failed.
-    ensures read_cause { result ≡ LinesEnd.ReadFault → Rose (S.read_faults source.old) (S.read_faults source.new) }
-    ensures reads { result ≢ LinesEnd.ReadFault → S.read_faults source.new ≡ S.read_faults source.old }
-    ensures write_cause { result ≡ LinesEnd.WriteFault → Rose (K.write_faults sink.old) (K.write_faults sink.new) }
-    ensures writes { result ≢ LinesEnd.WriteFault → K.write_faults sink.new ≡ K.write_faults sink.old }
+    // A fault is the object's own, and at no other end has that object failed.
+    ensures read_cause { result ≡ LinesEnd.ReadFault
+        → Rose (S.read_faults source.old) (S.read_faults source.new) }
+    ensures reads { result ≢ LinesEnd.ReadFault
+        → S.read_faults source.new ≡ S.read_faults source.old }
+    ensures write_cause { result ≡ LinesEnd.WriteFault
+        → Rose (K.write_faults sink.old) (K.write_faults sink.new) }
+    ensures writes { result ≢ LinesEnd.WriteFault
+        → K.write_faults sink.new ≡ K.write_faults sink.old }
 
     // Where nothing failed, the run stops before the end of the source at the limit alone.
     ensures limit_due { ¬ Rose (S.read_faults source.old) (S.read_faults source.new)
@@ -77,9 +83,10 @@ fn read_lines<M: LineMachine, S: Source, K: Sink>(
     buffer: &mut [u8],
 ) -> LinesEnd
     requires { 0 < length buffer.old }
-    ensures ran { LinesRan M.Step M.print (M.state machine.old) (S.left source.old) (S.left source.new)
-        (K.written sink.old) (K.written sink.new) result }
+    ensures ran { LinesRan M.Step M.print (M.state machine.old)
+        (S.left source.old) (S.left source.new) (K.written sink.old) (K.written sink.new) result }
     ensures has_ended { IfEnded result (λ flawed. S.has_ended source.new ≡ true) }
+    ensures nothing_left { IfEnded result (λ flawed. IsAtEnd (S.left source.new)) }
     ensures open { result ≡ LinesEnd.Limit → S.has_ended source.new ≡ S.has_ended source.old }
     ensures reads { ReadsCause (S.read_faults source.old) (S.read_faults source.new) result }
     ensures writes { WritesCause (K.write_faults sink.old) (K.write_faults sink.new) result }

@@ -1,8 +1,7 @@
-use Rattle.std.proofs.Common.{◌≡◌, List, [], ◌++◌, ℕ, take, drop, sym, ◌∙◌, subst, rules}
+use Rattle.std.proofs.Common.{◌≡◌, List, [], ◌++◌, ℕ, take, drop, sym, ◌∙◌, subst}
 use Rattle.std.proofs.lemmas.Result.{err_from_is_err_and}
 use Rattle.std.proofs.lemmas.List.{take-append-drop}
 use Rattle.ocsf_edge.proofs.Known.{Appends-none}
-use Rattle.ocsf_lines.specs.Feeding.{AnswerCut}
 use Rattle.ocsf_lines.proofs.feeding.answer_line.Goals as goal
 
 pub returns-in_err-reply-clause-err : goal.returns-in_err-reply-clause-err

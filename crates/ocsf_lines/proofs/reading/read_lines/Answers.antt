@@ -1,4 +1,4 @@
-use Rattle.std.proofs.Common.{◌≡◌, ◌+◌, ◌≤◌, ◌^◌, [], length, arith}
+use Rattle.std.proofs.Common.{◌+◌, ◌≤◌, ◌^◌, [], length, arith}
 use Rattle.std.proofs.lemmas.List.{length-take}
 use Rattle.std.specs.Io.KnownBytes.{Consumes}
 use Rattle.ocsf_lines.proofs.ReadingLemmas.{Reading-idle, Ran-closes, Ran-cut}
