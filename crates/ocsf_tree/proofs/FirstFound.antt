@@ -12,7 +12,7 @@ use Rattle.ocsf_tree.specs.declared.place.Step.TheVariants.{At, Name}
 use Rattle.ocsf_tree.specs.Place.{place_cmp}
 use Rattle.ocsf_tree.specs.FirstInexact.{or_else, first, first_item, first_member}
 use Rattle.ocsf_tree.specs.Reading.{value_at, IsInexactAt, IsFirstInexact}
-use Rattle.ocsf_tree.proofs.Order.{AllAfter, InOrder, ItemsInOrder, MembersInOrder, IfSomeIs}
+use Rattle.ocsf_tree.proofs.Order.{AllAfter, InOrder, ItemsInOrder, MembersInOrder, IfSomeIs, or_false}
 
 -- ---- none was found
 
@@ -50,10 +50,6 @@ mutual
       ap₂ (λ a b. a || b) (none_first d (map_None (λ p. Name n ∷ p) (first d) p.0)) (none_first_member ms p.1)
 
 -- ---- then there is none anywhere
-
-or_false : (a b : Bool) → (a || b) ≡ false → (a ≡ false) × (b ≡ false)
-or_false true b e = cc
-or_false false b e = (refl, e)
 
 chosen : (Q : Option Data → Type 0) (o : Ordering) (here later : Option Data) → Q (match_ordering o later here later) → ((o ≡ Equal) × Q here) ⊎ ((o ≡ Equal → ⊥) × Q later)
 chosen Q Less here later q = inr ((λ e. cc), q)

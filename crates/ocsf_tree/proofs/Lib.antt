@@ -2,6 +2,7 @@ pub mod Compared
 pub mod FirstFound
 pub mod Joined
 pub mod NameLists
+pub mod Keys
 pub mod Order
 pub mod Places
 pub mod Pointers

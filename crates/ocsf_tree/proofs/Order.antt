@@ -1,6 +1,7 @@
 -- The names of an object that was read stand strictly by their bytes.
 use Rattle.std.proofs.Common.{◌≡◌, ℕ, zero, suc, ◌^◌, ◌==◌, ℤ, List, drop, Bool, true, false, cond, ◌&&◌, ◌||◌, nat_lt, Float, true≢false, arith, lt-ltb, Option, Some, None, option_map, option_and_then, Ordering, Less, Equal, Greater, nat_cmp, refl, ap, ap₂, ◌∙◌, subst}
 use Rattle.std.specs.Prelude.{⊤, nat_le, slice_index}
+use Rattle.std.specs.Option.{IfSome}
 use Rattle.std.specs.Float.{binary64, float_is_finite}
 use Rattle.std.proofs.lemmas.Bool.{ltb-true, leb-true}
 use Rattle.fast_float.specs.Text.{minus, Parts, scan, digits_of, nearest, with_sign}
@@ -73,8 +74,7 @@ MembersInOrder-put k d (member l e ms) h o =
 -- ---- what was read
 
 abbrev pub IfSomeIs : {A : Type 0} → (A → Type 0) → Option A → Type 0
-IfSomeIs P None = ⊤
-IfSomeIs P (Some a) = P a
+IfSomeIs P o = IfSome o P
 
 IfSomeIs-map : {A B : Type 0} (P : A → Type 0) (Q : B → Type 0) (h : A → B) → ((a : A) → P a → Q (h a)) → (o : Option A) → IfSomeIs P o → IfSomeIs Q (option_map h o)
 IfSomeIs-map P Q h k None x = tt
@@ -147,7 +147,7 @@ read-InOrder text d e =
 
 -- ---- without a float it is valid
 
-or_false : (a b : Bool) → (a || b) ≡ false → (a ≡ false) × (b ≡ false)
+pub or_false : (a b : Bool) → (a || b) ≡ false → (a ≡ false) × (b ≡ false)
 or_false true b e = absurd (true≢false e)
 or_false false b e = (refl, e)
 

@@ -1,7 +1,7 @@
 -- The compact text reads back, and texts that are equal are of equal data.
-use Rattle.std.proofs.Common.{◌≡◌, ℕ, suc, ◌+◌, ◌^◌, ◌≤◌, max, pos, negsuc, List, [], true, false, Option, Some, option_map, option_and_then, Ordering, Less, Equal, Greater, nat_cmp, refl, sym, ap, ap₂, ◌∙◌, arith, true≢false, append-nil}
+use Rattle.std.proofs.Common.{◌≡◌, ℕ, suc, ◌+◌, ◌^◌, ◌≤◌, max, pos, negsuc, List, [], true, Option, Some, option_map, option_and_then, Less, Greater, nat_cmp, refl, sym, ap, ap₂, ◌∙◌, arith, true≢false, append-nil}
 use Rattle.std.specs.Prelude.{⊤}
-use Rattle.std.specs.Ordering.{match_ordering, ordering_reverse}
+use Rattle.std.specs.Ordering.{ordering_reverse}
 use Rattle.std.specs.Cmp.Lexicographic.{slice_cmp}
 use Rattle.std.proofs.lemmas.Bool.{and_parts, ltb-true}
 use Rattle.std.proofs.lemmas.Cmp.{nat_list_cmp_total}
@@ -19,6 +19,7 @@ use Rattle.serde_json.proofs.Numbers.{number_of-decimal, number_of-negative}
 use Rattle.serde_json.proofs.Texts.{print-outline}
 use Rattle.ocsf_tree.specs.Valid.{is_before, is_whole, is_valid, are_valid, members_valid}
 use Rattle.ocsf_tree.proofs.Order.{AllAfter, AllAfter-below}
+use Rattle.ocsf_tree.proofs.Valid.{less_so}
 
 -- ---- its numbers are numbers
 
@@ -53,11 +54,6 @@ mutual
       let p = and_parts (is_valid d) _ (and_parts (is_before k ms) _ h).1 in (HasNumbers-outline d p.0, MembersHaveNumbers-outline ms p.1)
 
 -- ---- its names go in one after another
-
-less_so : (o : Ordering) → match_ordering o true false false ≡ true → o ≡ Less
-less_so Less h = refl
-less_so Equal h = absurd (true≢false (sym h))
-less_so Greater h = absurd (true≢false (sym h))
 
 valid_after : (k : List ℕ) (ms : Members) → is_before k ms ≡ true → members_valid ms ≡ true → AllAfter k ms
 valid_after k no_members b v = tt

@@ -1,6 +1,6 @@
 -- The parts of a valid tree are valid, and a tree made of valid parts is valid.
-use Rattle.std.proofs.Common.{◌≡◌, ℕ, zero, suc, ◌+◌, ◌<◌, ◌^◌, Bool, true, false, cond, ◌&&◌, List, [], ◌∷◌, ◌++◌, drop, drop-drop, Option, Some, None, Bor, Ordering, Less, Equal, Greater, nat_cmp, refl, sym, ap, ap₂, ◌∙◌, subst, arith, rules, true≢false}
-use Rattle.std.specs.Prelude.{length, All, AllPairs, slice_get, slice_index_or}
+use Rattle.std.proofs.Common.{◌≡◌, ℕ, zero, suc, ◌+◌, Bool, true, false, cond, ◌&&◌, List, [], ◌∷◌, ◌++◌, drop, drop-drop, Option, Some, None, Bor, Ordering, Less, Equal, Greater, nat_cmp, refl, sym, ap, ap₂, ◌∙◌, subst, arith, true≢false}
+use Rattle.std.specs.Prelude.{All, AllPairs, slice_get, slice_index_or}
 use Rattle.std.specs.Option.{option_copied, IfSome}
 use Rattle.std.specs.Ordering.{match_ordering}
 use Rattle.std.specs.Cmp.Lexicographic.{slice_cmp}
@@ -9,12 +9,11 @@ use Rattle.std.proofs.lemmas.Bool.{and_parts}
 use Rattle.std.proofs.lemmas.List.Elements.{All-nil, All-cons}
 use Rattle.std.proofs.lemmas.List.Kept.{AllPairs-cons}
 use Rattle.std.proofs.lemmas.Cmp.{nat_list_cmp_total}
-use Rattle.ocsf_tree.specs.declared.tree.Tree.{Tree, out-Tree, the_lemmas}
+use Rattle.ocsf_tree.specs.declared.tree.Tree.{Tree}
 use Rattle.ocsf_tree.specs.declared.tree.Tree.TheVariants as tree
-use Rattle.ocsf_tree.specs.declared.tree.Tree.TheOpen.{Tree-F}
 use Rattle.ocsf_tree.specs.declared.tree.Member.{Member}
 use Rattle.ocsf_tree.specs.Data.{data_of, list_data, members_data}
-use Rattle.ocsf_tree.specs.Lookup.{member_in, member_of, member_at}
+use Rattle.ocsf_tree.specs.Lookup.{member_in}
 use Rattle.ocsf_tree.specs.Valid.{is_valid, are_valid, members_valid, is_before, IsValid, IsValidList, IsValidMembers}
 use Rattle.ocsf_tree.proofs.Views.{data_of-List, data_of-Members}
 
@@ -77,7 +76,7 @@ rest_items_valid ts i v = subst IsValidList (drop-drop 1 i ts) (one_item_less (d
 abbrev pub IsEarlier : Member → Member → Type 0
 IsEarlier l m = slice_cmp nat_cmp l.name m.name ≡ Less
 
-less_so : (o : Ordering) → match_ordering o true false false ≡ true → o ≡ Less
+pub less_so : (o : Ordering) → match_ordering o true false false ≡ true → o ≡ Less
 less_so Less h = refl
 less_so Equal h = absurd (true≢false (sym h))
 less_so Greater h = absurd (true≢false (sym h))

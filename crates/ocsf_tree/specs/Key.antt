@@ -1,8 +1,12 @@
--- The words of the two spaces of keys.
-use Rattle.std.specs.Prelude.{ℕ, List, codes}
+-- The printed form of keys.
+use Rattle.std.specs.Prelude.{ℕ, List, ◌++◌, codes}
 use Rattle.ocsf_tree.specs.declared.key.Side.{Side}
 use Rattle.ocsf_tree.specs.declared.key.Side.TheVariants.{Class, Object}
+use Rattle.ocsf_tree.specs.declared.key.Key.{Key}
 
 abbrev pub side_text : Side → List ℕ
 side_text Class = codes "class"
 side_text Object = codes "object"
+
+abbrev pub key_text : Key → List ℕ
+key_text key = side_text key.side ++ codes ":" ++ key.name

@@ -1,5 +1,5 @@
 -- What a text reads as.
-use Rattle.std.specs.Prelude.{◌≡◌, ◌≢◌, ℕ, List, [], ◌∷◌, ⊤, Float, IsUtf8, Option, Some, None, option_and_then, Result, Ok, Err}
+use Rattle.std.specs.Prelude.{◌≡◌, ◌≢◌, ℕ, List, [], ◌∷◌, ⊤, Float, IsUtf8, Option, Some, option_and_then, Result, Ok, Err}
 use Rattle.std.specs.declared.cmp.Ordering.TheVariants.{Greater}
 use Rattle.serde_json.specs.Data.{Data, number, float, depth}
 use Rattle.serde_json.specs.Find.{get, at}

@@ -17,36 +17,24 @@ pub fn is_same(a: &Tree, b: &Tree) -> bool
 fn compare(a: &Tree, b: &Tree) -> bool
     ensures { result ≡ same (data_of a.now) (data_of b.now) }
 {
-    match a {
-        Tree::Null => matches!(b, Tree::Null),
-        Tree::Flag(x) => match b {
-            Tree::Flag(y) => *x == *y,
-            _ => false,
-        },
-        Tree::Whole(x) => match b {
-            Tree::Whole(y) => *x == *y,
-            _ => false,
-        },
-        Tree::Words(x) => match b {
-            Tree::Words(y) => x.as_str() == y.as_str(),
-            _ => false,
-        },
-        Tree::List(x) => match b {
-            Tree::List(y) => x.len() == y.len() && compare_items(x.as_slice(), y.as_slice()),
-            _ => false,
-        },
-        Tree::Members(x) => match b {
-            Tree::Members(y) => x.len() == y.len() && compare_members(x.as_slice(), y.as_slice()),
-            _ => false,
-        },
+    match (a, b) {
+        (Tree::Null, Tree::Null) => true,
+        (Tree::Flag(x), Tree::Flag(y)) => *x == *y,
+        (Tree::Whole(x), Tree::Whole(y)) => *x == *y,
+        (Tree::Words(x), Tree::Words(y)) => x.as_str() == y.as_str(),
+        (Tree::List(x), Tree::List(y)) => compare_items(x.as_slice(), y.as_slice()),
+        (Tree::Members(x), Tree::Members(y)) => compare_members(x.as_slice(), y.as_slice()),
+        _ => false,
     }
 }
 
 #[cycle(compare)]
 fn compare_items(a: &[Tree], b: &[Tree]) -> bool
-    requires { length a.now ≡ length b.now }
     ensures { result ≡ same_items (list_data a.now) (list_data b.now) }
 {
+    if a.len() != b.len() {
+        return false;
+    }
     for index in 0..a.len() {
         if !compare(&a[index], &b[index]) {
             return false;
@@ -57,9 +45,11 @@ fn compare_items(a: &[Tree], b: &[Tree]) -> bool
 
 #[cycle(compare)]
 fn compare_members(a: &[Member], b: &[Member]) -> bool
-    requires { length a.now ≡ length b.now }
     ensures { result ≡ same_members (members_data a.now) (members_data b.now) }
 {
+    if a.len() != b.len() {
+        return false;
+    }
     for index in 0..a.len() {
         let left = &a[index];
         let right = &b[index];

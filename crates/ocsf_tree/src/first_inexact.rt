@@ -10,7 +10,7 @@ use std::alloc::{AllocError, Global};
 
 // The steps to the first number that is no whole one, the last step first.
 #[cycle(first)]
-pub fn first_inexact(alloc: Global, value: &Value) -> Result<Option<Row<Step>>, AllocError>
+pub(crate) fn first_inexact(alloc: Global, value: &Value) -> Result<Option<Row<Step>>, AllocError>
     ensures { IfOk result (λ found. option_map reverse found ≡ first (view value.now)) }
 {
     match value {

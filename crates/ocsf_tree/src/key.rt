@@ -32,6 +32,21 @@ impl Side {
     }
 }
 
+impl Key {
+    ghost use Rattle.std.specs.Prelude.{◌≡◌, IfOk};
+    ghost use Rattle.ocsf_tree.specs.Key.{key_text};
+
+    /// The printed key, from the allocator of its name.
+    pub fn to_text(&self) -> Result<Text, AllocError>
+        ensures { IfOk result (λ made. made ≡ key_text self.now) }
+    {
+        let mut out = String::from_str(self.name.allocator(), self.side.as_str())?;
+        out.push(':')?;
+        out.push_str(self.name.as_str())?;
+        Ok(Text::from_string(out))
+    }
+}
+
 impl TryClone for Key {
     fn try_clone(&self) -> Result<Key, AllocError> {
         Ok(Key {

@@ -1,5 +1,7 @@
 // What holds of every tree, text and place. The functions do nothing: each contract is a law.
-ghost use Rattle.ocsf_tree.specs.Laws.{IsAlwaysRead, IsReadOnce, IsTextOfOne, IsTextOfParts, IsPlaceOrder};
+ghost use Rattle.ocsf_tree.specs.Laws.{IsAlwaysRead, IsReadOnce, IsTextOfOne, IsTextOfParts, IsKeyOrder, IsPlaceOrder};
+
+use crate::key::Key;
 
 /// Every text is a tree, is no JSON, or holds a number that a tree can't hold.
 pub fn every_text_reads()
@@ -19,6 +21,11 @@ pub fn prints_tell_trees_apart()
 /// The print of a list or an object joins the prints of what it holds.
 pub fn prints_join()
     ensures { IsTextOfParts }
+{}
+
+/// Keys are ordered as their texts are by their bytes.
+pub fn keys_go_by_their_texts()
+    ensures { IsKeyOrder ⟦<Key as Ord>⟧.cmp }
 {}
 
 /// Places are ordered totally.

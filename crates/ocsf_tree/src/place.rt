@@ -1,4 +1,4 @@
-ghost use Rattle.std.specs.Prelude.{◌≡◌, IfOk, OnOk, ◌++◌, ◌∷◌, [], string_bytes, flat_map};
+ghost use Rattle.std.specs.Prelude.{◌≡◌, IfOk, OnOk, ◌++◌, ◌∷◌, [], string_bytes, flat_map, codes};
 ghost use Rattle.std.specs.Char.{encode_utf8};
 ghost use Rattle.ocsf_tree.specs.Place.{step_cmp, place_cmp, pointer_byte, step_text, pointer_text};
 
@@ -82,7 +82,7 @@ fn push_name(out: &mut String, name: &str) -> Result<(), AllocError>
 
 fn push_step(alloc: Global, out: &mut String, step: &Step) -> Result<(), AllocError>
     ensures { OnOk result
-        (string_bytes out.new ≡ string_bytes out.old ++ 47 ∷ step_text step.now) }
+        (string_bytes out.new ≡ string_bytes out.old ++ codes "/" ++ step_text step.now) }
 {
     out.push('/')?;
     match step {

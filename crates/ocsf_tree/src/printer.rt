@@ -19,7 +19,7 @@ pub fn print(alloc: Global, tree: &Tree) -> Result<Row<u8>, AllocError>
     ensures text { IfOk result (λ bytes. bytes ≡ text tree.now) }
     ensures reads_back { IfOk result (λ bytes. nesting tree.now ≤ 127 → IsReading bytes (Ok tree.now)) }
 {
-    let mut out = Writer::new(Vec::with_capacity(alloc, 128)?);
+    let mut out = Writer::new(Vec::new(alloc));
     write(tree, &mut out)?;
     Ok(Row::from_vec(out.into_inner()))
 }

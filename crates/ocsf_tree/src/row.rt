@@ -1,5 +1,5 @@
 ghost use Rattle.std.specs.Prelude.{◌≡◌, ◌<◌, ◌≤◌, [], ◌∷◌, ◌++◌, IfOk, OnOk, OnErr, IsTrue, ◌↔◌};
-ghost use Rattle.std.specs.Prelude.{length, reverse, insert, slice_set};
+ghost use Rattle.std.specs.Prelude.{length, reverse, insert, remove, slice_get, slice_set};
 
 use crate::try_clone::TryClone;
 use std::alloc::{AllocError, Global};
@@ -44,7 +44,7 @@ impl<T> Row<T> {
         self.items
     }
 
-    /// The allocator with which the list was made.
+    /// The allocator with which the list was made. Contracts don't see it.
     pub fn allocator(&self) -> Global {
         *self.items.allocator()
     }
@@ -91,6 +91,15 @@ impl<T: Drop> Row<T> {
     {
         self.items.insert(at, item)?;
         Ok(())
+    }
+
+    /// Takes out the item at position `at`. It takes time linear in the items after it.
+    pub fn remove(&mut self, at: usize) -> T
+        requires { at < length self.old }
+        ensures item { slice_get self.old at ≡ Some result }
+        ensures rest { self.new ≡ remove self.old at }
+    {
+        self.items.remove(at)
     }
 
     /// Puts the item in the place of the one at position `at`.

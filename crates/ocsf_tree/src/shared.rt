@@ -6,7 +6,7 @@ use std::marker::Model;
 use std::sync::Arc;
 
 /// A value with several owners, which contracts see as the value.
-#[derive(Drop)]
+#[derive(Debug, Drop)]
 pub struct Shared<T> {
     inner: Arc<T>,
 }

@@ -1,6 +1,6 @@
 use crate::{
-    Member, Place, Row, Shared, Step, Text, Tree, TreeError, TryClone, is_same, place_order,
-    pointer, print, quote, read,
+    Key, Member, Place, Row, Shared, Side, Step, Text, Tree, TreeError, TryClone, is_same,
+    place_order, pointer, print, quote, read,
 };
 use std::alloc::Global;
 use std::cmp::Ordering;
@@ -161,6 +161,11 @@ fn makes_and_copies(rt: HostRuntime) -> Result<(), Fail> {
     items.insert(0, 1)?;
     items.replace(1, 3);
     assert_eq!(rt; items.as_slice(), [1, 3].as_slice());
+    let key = Key {
+        side: Side::Object,
+        name: Text::of(alloc, "user")?,
+    };
+    assert_eq!(rt; key.try_clone()?.to_text()?.as_str(), "object:user");
     let tree = read(alloc, b"{\"b\":7}")?;
     assert!(rt; is_same(&tree, &Tree::Members(members)));
     let shared = Shared::new(alloc, tree.copy()?)?.try_clone()?;

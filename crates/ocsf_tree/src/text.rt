@@ -45,6 +45,11 @@ impl Text {
         Text { inner }
     }
 
+    /// The allocator with which the text was made. Contracts don't see it.
+    pub fn allocator(&self) -> Global {
+        *self.inner.allocator()
+    }
+
     pub fn as_str(&self) -> &str
         ensures { result.now ≡ self.now }
     {

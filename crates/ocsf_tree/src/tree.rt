@@ -59,6 +59,21 @@ impl Tree {
     }
 }
 
+impl TryClone for Tree {
+    fn try_clone(&self) -> Result<Tree, AllocError> {
+        self.copy()
+    }
+}
+
+impl TryClone for Member {
+    fn try_clone(&self) -> Result<Member, AllocError> {
+        Ok(Member {
+            name: self.name.copy()?,
+            value: self.value.copy()?,
+        })
+    }
+}
+
 fn find<'a>(members: &'a [Member], name: &str) -> Option<&'a Tree>
     requires { IsValidMembers members.now }
     ensures { option_copied result ≡ member_in name.now members.now }

@@ -1,4 +1,4 @@
-use Rattle.std.proofs.Common.{◌≡◌, sym, subst}
+use Rattle.std.proofs.Common.{sym, subst}
 use Rattle.std.specs.Option.{IfSome}
 use Rattle.ocsf_tree.specs.Valid.{IsValid, IsValidMembers}
 use Rattle.ocsf_tree.proofs.Valid.{members_of_valid, member_valid, of_ref}
