@@ -91,7 +91,7 @@ fn list_of(alloc: Global, items: Vec<Value>) -> Result<Row<Tree>, AllocError>
     requires { items_have_float (items_view items.items) ≡ false }
     ensures { IfOk result (λ made. list_data made ≡ items_view items.items) }
 {
-    let mut made = Row::from_vec(Vec::with_capacity(alloc, items.len())?);
+    let mut made = Row::with_capacity(alloc, items.len())?;
     for item in items {
         made.push(tree_of(alloc, item)?)?;
     }
@@ -103,7 +103,7 @@ fn members_of(alloc: Global, members: Map<String, Value>) -> Result<Row<Member>,
     requires { members_have_float (members_view members.entries) ≡ false }
     ensures { IfOk result (λ made. members_data made ≡ members_view members.entries) }
 {
-    let mut made = Row::from_vec(Vec::with_capacity(alloc, members.len())?);
+    let mut made = Row::with_capacity(alloc, members.len())?;
     for (name, member) in members {
         let name = Text::from_string(name);
         let value = tree_of(alloc, member)?;

@@ -32,6 +32,15 @@ impl<T> Row<T> {
         }
     }
 
+    /// The empty list, with memory for so many items.
+    pub fn with_capacity(alloc: Global, capacity: usize) -> Result<Row<T>, AllocError>
+        ensures { IfOk result (λ made. made ≡ []) }
+    {
+        Ok(Row {
+            items: Vec::with_capacity(alloc, capacity)?,
+        })
+    }
+
     pub fn from_vec(items: Vec<T>) -> Row<T>
         ensures { result ≡ items.items }
     {
@@ -126,7 +135,7 @@ impl<T: TryClone> Row<T> {
     pub fn of(alloc: Global, items: &[T]) -> Result<Row<T>, AllocError>
         ensures { IfOk result (λ made. made ≡ items.now) }
     {
-        let mut made = Row::new(alloc);
+        let mut made = Row::with_capacity(alloc, items.len())?;
         for item in items {
             made.push(item.try_clone()?)?;
         }

@@ -88,7 +88,7 @@ fn find<'a>(members: &'a [Member], name: &str) -> Option<&'a Tree>
 fn copy_items(items: &Row<Tree>) -> Result<Row<Tree>, AllocError>
     ensures { IfOk result (λ made. made ≡ items.now) }
 {
-    let mut made = Row::new(items.allocator());
+    let mut made = Row::with_capacity(items.allocator(), items.len())?;
     for item in items.as_slice() {
         made.push(item.copy()?)?;
     }
@@ -99,7 +99,7 @@ fn copy_items(items: &Row<Tree>) -> Result<Row<Tree>, AllocError>
 fn copy_members(members: &Row<Member>) -> Result<Row<Member>, AllocError>
     ensures { IfOk result (λ made. made ≡ members.now) }
 {
-    let mut made = Row::new(members.allocator());
+    let mut made = Row::with_capacity(members.allocator(), members.len())?;
     for member in members.as_slice() {
         let name = member.name.copy()?;
         let value = member.value.copy()?;
