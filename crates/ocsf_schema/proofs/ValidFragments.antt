@@ -44,15 +44,15 @@ module _ {X : Type 0} (key : X → List ℕ) (value : X → Tree) where
 
 -- ---- an object with members that may be absent
 
-abbrev IsValidField : Field → Type 0
+abbrev pub IsValidField : Field → Type 0
 IsValidField (name, None) = Unit {0}
 IsValidField (name, Some value) = IsValid value
 
-abbrev AreValidFields : List Field → Type 0
+abbrev pub AreValidFields : List Field → Type 0
 AreValidFields [] = Unit {0}
 AreValidFields (field ∷ fields) = IsValidField field × AreValidFields fields
 
-abbrev field_name : Field → List ℕ
+abbrev pub field_name : Field → List ℕ
 field_name (name, value) = name
 
 first_present : (k : List ℕ) (fields : List Field) → below_all text_cmp k (named field_name fields) ≡ true → is_before k (members_data (present fields)) ≡ true
@@ -74,15 +74,15 @@ present_valid ((name, Some value) ∷ fields) h v =
     (both (is_valid (data_of value)) (members_valid (members_data (present fields))) v.0
     (present_valid fields (tail_by_name field_name (name, Some value) fields h) v.1))
 
-object_of_valid : (fields : List Field) → IsByName field_name fields → AreValidFields fields → IsValid (object_of fields)
+pub object_of_valid : (fields : List Field) → IsByName field_name fields → AreValidFields fields → IsValid (object_of fields)
 object_of_valid fields h v = object_valid (present fields) (present_valid fields h v)
 
 -- ---- the values
 
-word_valid : (text : List ℕ) → IsValid (tree.Words text)
+pub word_valid : (text : List ℕ) → IsValid (tree.Words text)
 word_valid text = search (rules, the_lemmas)
 
-words_valid : (name : List ℕ) (text : Option (List ℕ)) → IsValidField (name, words text)
+pub words_valid : (name : List ℕ) (text : Option (List ℕ)) → IsValidField (name, words text)
 words_valid name None = tt
 words_valid name (Some text) = word_valid text
 

@@ -5,16 +5,10 @@ use Rattle.ocsf_tree.specs.declared.tree.Tree.TheVariants as tree
 use Rattle.ocsf_tree.specs.declared.tree.Member.{Member}
 use Rattle.ocsf_tree.specs.declared.key.Side.{Side}
 use Rattle.ocsf_tree.specs.declared.key.Side.TheVariants.{Class, Object}
-use Rattle.ocsf_tree.specs.declared.key.Key.{Key}
 use Rattle.ocsf_tree.specs.CompactText.{text}
-use Rattle.ocsf_tree.specs.Key.{side_text}
 use Rattle.ocsf_schema.specs.declared.records.Item.{Item}
 use Rattle.ocsf_schema.specs.declared.parts.SchemaParts.{SchemaParts}
 use Rattle.ocsf_schema.specs.Print.{fragment_tree}
-
--- how a full key is printed
-abbrev pub key_text : Key → List ℕ
-key_text key = side_text key.side ++ codes ":" ++ key.name
 
 abbrev pub same_side : Side → Side → Bool
 same_side Class Class = true

@@ -37,7 +37,8 @@ impl Model for Schema {
 }
 
 impl Schema {
-    ghost use Rattle.ocsf_schema.specs.Schema.{schema_text, key_text};
+    ghost use Rattle.ocsf_tree.specs.Key.{key_text};
+    ghost use Rattle.ocsf_schema.specs.Schema.{schema_text};
 
     /// The schema that holds these parts. The five trees are what the members of their names hold in the printed
     /// schema.

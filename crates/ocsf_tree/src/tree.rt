@@ -107,9 +107,3 @@ fn copy_members(members: &Row<Member>) -> Result<Row<Member>, AllocError>
     }
     Ok(made)
 }
-
-impl TryClone for Tree {
-    fn try_clone(&self) -> Result<Tree, AllocError> {
-        self.copy()
-    }
-}

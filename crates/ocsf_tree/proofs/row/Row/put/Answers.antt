@@ -1,5 +1,4 @@
-use Rattle.std.proofs.Common.{◌≡◌, sym, ◌∙◌, OnOk, subst}
-use Rattle.ocsf_tree.specs.ByName.{put_by_name}
+use Rattle.std.proofs.Common.{sym, ◌∙◌}
 use Rattle.ocsf_tree.proofs.NameLists.{put_by_name-insert, put_by_name-set}
 use Rattle.ocsf_tree.proofs.row.Row.put.Goals as goal
 
