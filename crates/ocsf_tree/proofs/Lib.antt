@@ -1,8 +1,8 @@
 pub mod Compared
 pub mod FirstFound
 pub mod Joined
-pub mod NameLists
 pub mod Keys
+pub mod NameLists
 pub mod Order
 pub mod Places
 pub mod Pointers
@@ -10,5 +10,6 @@ pub mod Readings
 pub mod RoundTrip
 pub mod Same
 pub mod Search
+pub mod TextsApart
 pub mod Valid
 pub mod Views
