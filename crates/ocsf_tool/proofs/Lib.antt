@@ -1,0 +1,4 @@
+pub mod FileSets
+pub mod CompiledParts
+pub mod LeastFaults
+pub mod Nothing

@@ -1,0 +1,73 @@
+// The command `edits`: an edit a line.
+ghost use Rattle.std.specs.Prelude.{◌≡◌, ◌+◌, ◌^◌, IfOk};
+ghost use Rattle.std.proofs.Common.{arith, subst};
+ghost use Rattle.std.proofs.lemmas.List.{take_all};
+ghost use Rattle.ocsf_tool.specs.Edits.{Edited, EditStep, edits_print, no_edits};
+ghost use Rattle.ocsf_tool.specs.Answered.{some_step};
+
+use crate::compilation::Compilation;
+use crate::judgement::judge;
+use crate::outcome::Outcome;
+use crate::replies::{accepted, refused};
+use ocsf_edge::{Failed, Sink};
+use ocsf_lines::{LineMachine, Reply};
+use std::alloc::{AllocError, Global};
+
+/// What was accepted so far.
+#[derive(Drop)]
+pub struct Edits {
+    alloc: Global,
+    now: Compilation,
+}
+
+impl Edits {
+    /// No files, and no edit yet.
+    pub fn new(alloc: Global) -> Result<Edits, AllocError>
+        ensures { IfOk result (λ edits. ⟦<Edits as LineMachine>⟧.state edits ≡ no_edits) }
+    {
+        Ok(Edits {
+            alloc,
+            now: Compilation::empty(alloc)?,
+        })
+    }
+}
+
+impl LineMachine for Edits {
+    ghost State = { Edited };
+
+    ghost state = { λ edits. record { files = edits.now.files; revision = edits.now.revision } };
+
+    ghost Step = { EditStep };
+
+    ghost print = { edits_print };
+
+    // A line may be as long as a run.
+    const MOST: usize = 1 << 40;
+
+    ghost MOST = { 2 ^ 40 };
+
+    fn answer(&mut self, line: &[u8]) -> Result<Reply, AllocError> {
+        match judge(self.alloc, &self.now, line)? {
+            Outcome::Accepted(next) => {
+                let text = accepted(self.alloc, next.revision)?;
+                self.now = next;
+                Ok(Reply {
+                    text,
+                    flawed: false,
+                })
+            }
+            Outcome::Refused(fault) => {
+                let text = refused(self.alloc, &fault)?;
+                Ok(Reply { text, flawed: true })
+            }
+        }
+    }
+
+    fn write_print<K: Sink>(&self, sink: &mut K) -> Result<(), Failed> {
+        self.now.schema.write_to(sink)
+    }
+
+    ghost answers = { some_step };
+
+    ghost by_front = { λ old line reply flawed new within step. subst (λ l. EditStep old l reply flawed new) (take_all (2 ^ 40 + 1) line (Prim.omega arith)) step };
+}

@@ -1,0 +1,11 @@
+// How a line was judged.
+use crate::compilation::Compilation;
+use ocsf_tree::Fault;
+
+/// How a line was judged.
+#[derive(Drop)]
+pub enum Outcome {
+    /// The edit leaves these files.
+    Accepted(Compilation),
+    Refused(Fault),
+}
