@@ -14,3 +14,6 @@ mod status;
 
 pub use command::run;
 pub use status::Status;
+
+#[cfg(test)]
+mod tests;
