@@ -1,4 +1,10 @@
 pub mod EachOf
+pub mod FilesByName
+pub mod FilterMaps
 pub mod FirstForms
+pub mod LeastParts
+pub mod LeastTrees
+pub mod Leasts
 pub mod MembersByName
 pub mod Parts
+pub mod Refusals

@@ -1,3 +1,10 @@
 pub mod Names
 pub mod Forms
 pub mod FirstForm
+pub mod What
+pub mod Wanted
+pub mod Least
+pub mod Shape
+pub mod Content
+pub mod FileShape
+pub mod Ordered

@@ -47,7 +47,7 @@ fn has_only(names: &[&str], tree: &Tree) -> bool
     }
 }
 
-fn text_at<'a>(name: &str, tree: &'a Tree) -> Option<&'a Text>
+pub fn text_at<'a>(name: &str, tree: &'a Tree) -> Option<&'a Text>
     requires { IsValid tree.now }
     ensures { option_copied result ≡ text_at name.now tree.now }
 {
@@ -150,7 +150,7 @@ fn dictionary(alloc: Global, body: &Tree) -> Result<Option<DictFile>, AllocError
     }))
 }
 
-fn requirement_named(text: &str) -> Option<Requirement>
+pub fn requirement_named(text: &str) -> Option<Requirement>
     ensures { result ≡ requirement_named text.now }
 {
     if text == "required" {

@@ -1,5 +1,5 @@
 ghost use Rattle.std.specs.Prelude.{◌≡◌};
-ghost use Rattle.ocsf_raw.specs.Forms.{folder, below, form_in_folder, shared_form, core_form, extension_form, form_of, has_form};
+ghost use Rattle.ocsf_raw.specs.Forms.{folder, below, form_in_folder, shared_form, core_form, extension_form, form_of, has_form, is_include_path};
 
 use crate::names::is_path;
 use ocsf_tree::Side;
@@ -16,7 +16,7 @@ pub enum Form {
     Extension,
 }
 
-fn folder(path: &str) -> &str
+pub fn folder(path: &str) -> &str
     ensures { result.now ≡ folder path.now }
 {
     match path.split_once('/') {
@@ -103,4 +103,11 @@ pub fn has_form(path: &str) -> bool
     ensures { result ≡ has_form path.now }
 {
     form_of(path).is_some()
+}
+
+/// Whether a file may include that path: one at which a file may stand, and not below `extensions/`.
+pub fn is_include_path(path: &str) -> bool
+    ensures { result ≡ is_include_path path.now }
+{
+    is_path(path) && core_form(path).is_some()
 }
