@@ -29,14 +29,14 @@ use Rattle.ocsf_raw.specs.declared.least_fault.Found.{Found}
 use Rattle.ocsf_raw.specs.Shape.{IsLeast, is_given, fault_at}
 use Rattle.ocsf_raw.specs.Least.{lesser, found_below, fault_of_item, fault_of_member, faults_of_items, faults_of_members, faults_missing}
 use Rattle.ocsf_raw.proofs.MembersByName.{member_name, members_by_name}
-use Rattle.ocsf_raw.proofs.Leasts.{least_alike, none_least, below_least, least_of_two}
+use Rattle.ocsf_raw.proofs.Leasts.{less_if, least_alike, none_least, below_least, least_of_two}
 
 -- ---- names
 
 same_bytes : (a b : List ℕ) → bytes_eq a b ≡ true → a ≡ b
 same_bytes a b e = (bytes_eq-Decides a b).0 e
 
-pub bytes_eq-self : (a : List ℕ) → bytes_eq a a ≡ true
+bytes_eq-self : (a : List ℕ) → bytes_eq a a ≡ true
 bytes_eq-self a = (bytes_eq-Decides a a).1 refl
 
 apart : (a b : List ℕ) → (a ≡ b → ⊥) → bytes_eq a b ≡ false
@@ -50,24 +50,19 @@ not_less_itself a b e h =
 less_apart : (a b : List ℕ) → text_cmp a b ≡ Less → bytes_eq b a ≡ false
 less_apart a b h = apart b a (λ e. not_less_itself a b (sym e) h)
 
-less_so : (o : Ordering) → is_lt o ≡ true → o ≡ Less
-less_so Less h = refl
-less_so Equal h = cc
-less_so Greater h = cc
-
 -- a name below all others isn't among them
 not_among : (n : List ℕ) (ms : List Member) → below_all text_cmp n (named member_name ms) ≡ true → member_in n ms ≡ None
 not_among n [] h = refl
 not_among n (m ∷ ms) h =
     let parts = and_parts (is_lt (text_cmp n m.name)) (below_all text_cmp n (named member_name ms)) h in
-    ap (λ b. cond b (Some m.value) (member_in n ms)) (less_apart n m.name (less_so (text_cmp n m.name) parts.0))
+    ap (λ b. cond b (Some m.value) (member_in n ms)) (less_apart n m.name (less_if (text_cmp n m.name) parts.0))
     ∙ not_among n ms parts.1
 
 below_still : (n k : List ℕ) (ms : List Member) → text_cmp n k ≡ Less → below_all text_cmp k (named member_name ms) ≡ true → below_all text_cmp n (named member_name ms) ≡ true
 below_still n k [] e h = refl
 below_still n k (m ∷ ms) e h =
     let parts = and_parts (is_lt (text_cmp k m.name)) (below_all text_cmp k (named member_name ms)) h in
-    ap₂ (λ a b. a && b) (ap is_lt (nat_list_cmp_total.trans n k m.name e (less_so (text_cmp k m.name) parts.0))) (below_still n k ms e parts.1)
+    ap₂ (λ a b. a && b) (ap is_lt (nat_list_cmp_total.trans n k m.name e (less_if (text_cmp k m.name) parts.0))) (below_still n k ms e parts.1)
 
 head_first : (m : Member) (ms : List Member) → IsValidMembers (m ∷ ms) → below_all text_cmp m.name (named member_name ms) ≡ true
 head_first m ms v = head_below member_name m ms (members_by_name (m ∷ ms) v)

@@ -11,13 +11,8 @@ use Rattle.ocsf_tree.specs.declared.tree.Member.{Member}
 use Rattle.ocsf_tree.specs.Data.{members_data}
 use Rattle.ocsf_tree.specs.Valid.{IsValidMembers, is_before}
 use Rattle.ocsf_tree.specs.ByName.{text_cmp, named, is_by_name, IsByName}
-use Rattle.ocsf_tree.proofs.Valid.{first_member_valid}
+use Rattle.ocsf_tree.proofs.Valid.{less_so, first_member_valid}
 use Rattle.ocsf_raw.specs.FirstForm.{each_of}
-
-less_so : (o : Ordering) → match_ordering o true false false ≡ true → o ≡ Less
-less_so Less h = refl
-less_so Equal h = absurd (true≢false (sym h))
-less_so Greater h = absurd (true≢false (sym h))
 
 both : (a b : Bool) → a ≡ true → b ≡ true → (a && b) ≡ true
 both a b p q = ap₂ (λ x y. x && y) p q

@@ -26,7 +26,7 @@ use Rattle.ocsf_raw.specs.declared.files.ExtFile.{ExtFile}
 use Rattle.ocsf_raw.specs.declared.path_form.Form.{Form}
 use Rattle.ocsf_raw.specs.declared.path_form.Form.TheVariants as form
 use Rattle.ocsf_raw.specs.FirstForm.{items_of, members_of, text_of, text_at, requirement_named}
-use Rattle.ocsf_raw.specs.Wanted.{is_include, is_null}
+use Rattle.ocsf_raw.specs.Wanted.{include_key, is_include, is_null}
 
 -- ---- members by their kind
 
@@ -190,7 +190,7 @@ includes_in None = []
 includes_in (Some t) = includes_of (out-Tree t)
 
 abbrev pub includes : Tree → List (List ℕ)
-includes t = includes_in (option_and_then (member_at (codes "$include")) (member_at (codes "attributes") t))
+includes t = includes_in (option_and_then (member_at include_key) (member_at (codes "attributes") t))
 
 abbrev pub constraint_at : List ℕ → Tree → Option (List (List ℕ))
 constraint_at name t = option_and_then (texts_at name) (member_at (codes "constraints") t)

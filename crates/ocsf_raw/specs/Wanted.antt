@@ -246,8 +246,12 @@ extension_fields =
 abbrev pub named_entry : Objects → List ℕ → Option Wanted
 named_entry kind name = if is_name name then Some (Object kind) else Some (Refused BadName)
 
+-- the member that names the files to include, where entries stand
+abbrev pub include_key : List ℕ
+include_key = codes "$include"
+
 abbrev pub is_include : List ℕ → Bool
-is_include name = bytes_eq name (codes "$include")
+is_include name = bytes_eq name include_key
 
 abbrev pub item_entry_at : List ℕ → Option Wanted
 item_entry_at name = if is_include name then Some (Listed listed.Includes) else named_entry object.Entry name

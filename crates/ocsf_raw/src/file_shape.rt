@@ -1,7 +1,7 @@
 ghost use Rattle.std.specs.Prelude.{◌≡◌, IfOk, nat_lt, length};
 ghost use Rattle.ocsf_tree.specs.CompactText.{text};
 ghost use Rattle.ocsf_tree.specs.Valid.{IsValid};
-ghost use Rattle.ocsf_raw.specs.FileShape.{is_of_core, file_wanted, shape_name, IsShape};
+ghost use Rattle.ocsf_raw.specs.FileShape.{is_of_core, file_wanted, max_file_length, shape_name, IsShape};
 ghost use Rattle.ocsf_raw.specs.Ordered.{IsFileOrdered};
 
 use crate::content::content;
@@ -12,8 +12,8 @@ use crate::wanted::{Object, Wanted};
 use ocsf_tree::{Code, Fault, Text, Tree, pointer, print};
 use std::alloc::{AllocError, Global};
 
-/// The longest compact text of a file, in bytes.
-pub const MAX_FILE_LEN: usize = 2097152;
+// The longest compact text of a file, in bytes.
+const MAX_FILE_LEN: usize = 2097152;
 
 #[derive(Debug, Drop)]
 pub enum RawError {
@@ -64,7 +64,7 @@ fn shape_name(alloc: Global, found: &Found) -> Result<Text, AllocError>
 
 fn is_too_long(alloc: Global, tree: &Tree) -> Result<bool, AllocError>
     requires { IsValid tree.now }
-    ensures { IfOk result (λ longer. longer ≡ nat_lt 2097152 (length (text tree.now))) }
+    ensures { IfOk result (λ longer. longer ≡ nat_lt max_file_length (length (text tree.now))) }
 {
     let text = print(alloc, tree)?;
     Ok(text.len() > MAX_FILE_LEN)

@@ -23,11 +23,8 @@ mod what;
 
 pub use attribute::{Mark, RawAttr};
 pub use dictionary::{DictEntry, DictFile, TypeEntry};
-pub use file_shape::{MAX_FILE_LEN, RawError, shape};
+pub use file_shape::{RawError, shape};
 pub use files::{CategoryEntry, ExtFile, ItemFile, ProfileFile, RawFile};
 pub use first_edit::{FirstPut, first_form};
-pub use least_fault::Found;
 pub use names::{is_name, is_path, is_reference};
 pub use path_form::{Form, form_of, has_form};
-pub use wanted::{Listed, Object, Plain, Wanted};
-pub use what::What;
