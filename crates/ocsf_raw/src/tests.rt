@@ -1,5 +1,8 @@
-use crate::{RawError, first_form, has_form, is_path, is_reference, shape};
-use ocsf_tree::{Text, read};
+use crate::{
+    CategoryEntry, DictFile, ItemFile, Mark, RawAttr, RawError, RawFile, first_form, has_form,
+    is_path, is_reference, shape,
+};
+use ocsf_tree::{EnumMember, Text, read};
 use std::test::Fail;
 
 fn refusal(rt: &HostRuntime, path: &str, text: &[u8]) -> Result<Text, Fail> {
@@ -119,7 +122,7 @@ fn finds_each_fault(rt: HostRuntime) -> Result<(), Fail> {
 
 #[test]
 fn takes_each_form(rt: HostRuntime) -> Result<(), Fail> {
-    let rows: [(&str, &str); 14] = [
+    let rows: [(&str, &str); 15] = [
         ("version.json", "{\"version\":\"1.3.0\",\"other\":[5]}"),
         (
             "categories.json",
@@ -145,6 +148,10 @@ fn takes_each_form(rt: HostRuntime) -> Result<(), Fail> {
         ),
         ("extensions/e/objects/a.json", "{\"extends\":\"b\"}"),
         (
+            "extensions/e/events/x/a.json",
+            "{\"extends\":\"b\",\"uid\":1}",
+        ),
+        (
             "profiles/p.json",
             "{\"attributes\":{\"$include\":null},\"name\":\"p\"}",
         ),
@@ -169,21 +176,34 @@ fn takes_each_form(rt: HostRuntime) -> Result<(), Fail> {
     Ok(())
 }
 
-// A version file whose compact text has that many bytes.
-fn of_length(rt: &HostRuntime, len: usize) -> Result<Text, Fail> {
+// The refusal of a file with a text of `len` letters between these bytes.
+fn filled(rt: &HostRuntime, path: &str, start: &str, len: usize, end: &str) -> Result<Text, Fail> {
     let mut text = Vec::new(rt.alloc());
-    text.extend_from_slice(b"{\"version\":\"")?;
-    for _ in 14..len {
+    text.extend_from_slice(start.as_bytes())?;
+    for _ in 0..len {
         text.push(b'a')?;
     }
-    text.extend_from_slice(b"\"}")?;
-    refusal(rt, "version.json", text.as_slice())
+    text.extend_from_slice(end.as_bytes())?;
+    refusal(rt, path, text.as_slice())
 }
 
 #[test]
-fn bounds_the_text(rt: HostRuntime) -> Result<(), Fail> {
-    assert_eq!(rt; of_length(&rt, 2097152)?.as_str(), "ok");
-    assert_eq!(rt; of_length(&rt, 2097153)?.as_str(), "limit file");
+fn bounds_lengths(rt: HostRuntime) -> Result<(), Fail> {
+    let version = ("version.json", "{\"version\":\"", "\"}");
+    let pattern = (
+        "dictionary.json",
+        "{\"types\":{\"attributes\":{\"t\":{\"regex\":\"",
+        "\"}}}}",
+    );
+    let rows: [((&str, &str, &str), usize, &str); 4] = [
+        (version, 2097152 - 14, "ok"),
+        (version, 2097153 - 14, "limit file"),
+        (pattern, 8192, "ok"),
+        (pattern, 8193, "shape /types/attributes/t/regex too_long"),
+    ];
+    for ((path, start, end), len, want) in rows {
+        assert_eq!(rt; filled(&rt, path, start, len, end)?.as_str(), want);
+    }
     Ok(())
 }
 
@@ -229,6 +249,205 @@ fn reads_the_first_form(rt: HostRuntime) -> Result<(), Fail> {
     ] {
         let edit = read(alloc, text.as_bytes())?;
         assert!(rt; first_form(alloc, &edit)?.is_none(), "at {text}");
+    }
+    Ok(())
+}
+
+// The text, or `-` where none is given.
+fn or_dash(text: &Option<Text>) -> &str {
+    match text {
+        Some(text) => text.as_str(),
+        None => "-",
+    }
+}
+
+fn push_all(out: &mut String, texts: &[Text]) -> Result<(), Fail> {
+    for text in texts {
+        write!(out, "+{}", text.as_str())?;
+    }
+    Ok(())
+}
+
+fn push_members(out: &mut String, members: &[EnumMember]) -> Result<(), Fail> {
+    for member in members {
+        write!(
+            out,
+            " {}={},{}",
+            member.key.as_str(),
+            member.caption.as_str(),
+            or_dash(&member.description)
+        )?;
+    }
+    Ok(())
+}
+
+fn push_entries(out: &mut String, entries: &[RawAttr]) -> Result<(), Fail> {
+    for entry in entries {
+        let mark = match &entry.mark {
+            Mark::Unsaid => "unsaid",
+            Mark::Cleared => "cleared",
+            Mark::Named(name) => name.as_str(),
+        };
+        write!(
+            out,
+            "; {} {} {} {} {} {:?} {} {:?} {} {}",
+            entry.name.as_str(),
+            entry.removed,
+            or_dash(&entry.caption),
+            or_dash(&entry.description),
+            or_dash(&entry.type_name),
+            entry.is_array,
+            or_dash(&entry.sibling),
+            entry.requirement,
+            mark,
+            or_dash(&entry.group)
+        )?;
+        push_members(out, entry.members.as_slice())?;
+    }
+    Ok(())
+}
+
+fn push_categories(out: &mut String, entries: &[CategoryEntry]) -> Result<(), Fail> {
+    for entry in entries {
+        write!(
+            out,
+            "{} {} {} {}",
+            entry.name.as_str(),
+            or_dash(&entry.caption),
+            or_dash(&entry.description),
+            entry.uid
+        )?;
+    }
+    Ok(())
+}
+
+fn push_dictionary(out: &mut String, file: &DictFile) -> Result<(), Fail> {
+    for entry in file.attributes.as_slice() {
+        write!(
+            out,
+            "{} {} {} {} {:?} {}",
+            entry.name.as_str(),
+            or_dash(&entry.caption),
+            or_dash(&entry.description),
+            or_dash(&entry.type_name),
+            entry.is_array,
+            or_dash(&entry.sibling)
+        )?;
+        push_members(out, entry.members.as_slice())?;
+    }
+    for entry in file.types.as_slice() {
+        write!(
+            out,
+            "; {} {} {} {} {} {:?} {:?}",
+            entry.name.as_str(),
+            or_dash(&entry.caption),
+            or_dash(&entry.description),
+            or_dash(&entry.parent),
+            or_dash(&entry.pattern),
+            entry.range,
+            entry.max_len
+        )?;
+        if let Some(values) = &entry.values {
+            write!(out, " {}", values.len())?;
+        }
+    }
+    Ok(())
+}
+
+fn push_item(out: &mut String, file: &ItemFile) -> Result<(), Fail> {
+    write!(
+        out,
+        "{} {} {} {} {} {:?}",
+        or_dash(&file.name),
+        or_dash(&file.caption),
+        or_dash(&file.description),
+        or_dash(&file.parent),
+        or_dash(&file.category),
+        file.uid
+    )?;
+    push_all(out, file.profiles.as_slice())?;
+    push_all(out, file.includes.as_slice())?;
+    for constraint in [&file.at_least_one, &file.just_one] {
+        if let Some(names) = constraint {
+            out.push_str(" of")?;
+            push_all(out, names.as_slice())?;
+        }
+    }
+    push_entries(out, file.attributes.as_slice())
+}
+
+// What the record of that file says.
+fn said(rt: &HostRuntime, path: &str, text: &str) -> Result<String, Fail> {
+    let alloc = rt.alloc();
+    let tree = read(alloc, text.as_bytes())?;
+    let mut out = String::new(alloc);
+    match shape(alloc, path, &tree)? {
+        RawFile::Version(version) => out.push_str(version.as_str())?,
+        RawFile::Categories(entries) => push_categories(&mut out, entries.as_slice())?,
+        RawFile::Dictionary(file) => push_dictionary(&mut out, &file)?,
+        RawFile::Item(file) => push_item(&mut out, &file)?,
+        RawFile::Profile(file) => {
+            write!(
+                out,
+                "{} {} {} {} {:?}",
+                file.name.as_str(),
+                or_dash(&file.caption),
+                or_dash(&file.description),
+                or_dash(&file.group),
+                file.requirement
+            )?;
+            push_entries(&mut out, file.attributes.as_slice())?;
+        }
+        RawFile::Include(entries) => push_entries(&mut out, entries.as_slice())?,
+        RawFile::Extension(file) => write!(
+            out,
+            "{} {} {} {}",
+            file.name.as_str(),
+            file.uid,
+            or_dash(&file.caption),
+            or_dash(&file.version)
+        )?,
+    }
+    Ok(out)
+}
+
+#[test]
+fn says_what_is_written(rt: HostRuntime) -> Result<(), Fail> {
+    let rows: [(&str, &str, &str); 7] = [
+        ("version.json", "{\"version\":\"1.3.0\"}", "1.3.0"),
+        (
+            "categories.json",
+            "{\"attributes\":{\"a\":null,\"b\":{\"caption\":\"c\",\"description\":\"d\",\"uid\":7}}}",
+            "b c d 7",
+        ),
+        (
+            "dictionary.json",
+            "{\"attributes\":{\"a\":{\"caption\":\"c\",\"description\":\"d\",\"enum\":{\"$include\":1,\"1\":{\"caption\":\"One\",\"description\":\"e\"},\"2\":{},\"3\":null},\"is_array\":true,\"sibling\":\"s\",\"type\":\"t\"},\"b\":null},\"types\":{\"attributes\":{\"t\":{\"caption\":\"c\",\"description\":\"d\",\"max_len\":9,\"range\":[-1,2],\"regex\":\"r\",\"type\":\"p\",\"values\":[1,null]}}}}",
+            "a c d t Some(true) s 1=One,e 2=2,-; t c d p r Some(Span { low: -1, high: 2 }) Some(9) 2",
+        ),
+        (
+            "events/a.json",
+            "{\"attributes\":{\"$include\":[\"includes/i.json\",\"profiles/p.json\"],\"x\":null,\"y\":{\"profile\":\"p\"}},\"caption\":\"c\",\"category\":\"k\",\"constraints\":{\"at_least_one\":[\"x\"],\"just_one\":[]},\"description\":\"d\",\"extends\":\"b\",\"name\":\"a\",\"profiles\":[\"p\",\"e/q\"],\"uid\":5}",
+            "a c d b k Some(5)+p+e/q+includes/i.json+profiles/p.json of+x of; x true - - - None - None unsaid -; y false - - - None - None p -",
+        ),
+        (
+            "profiles/p.json",
+            "{\"annotations\":{\"group\":\"g\",\"requirement\":\"recommended\"},\"caption\":\"c\",\"description\":\"d\",\"name\":\"p\"}",
+            "p c d g Some(Recommended)",
+        ),
+        (
+            "includes/i.json",
+            "{\"attributes\":{\"y\":{\"caption\":\"c\",\"description\":\"d\",\"enum\":{\"\":{}},\"group\":\"g\",\"is_array\":false,\"profile\":null,\"requirement\":\"optional\",\"sibling\":\"s\",\"type\":\"e/t\"}}}",
+            "; y false c d e/t Some(false) s Some(Optional) cleared g =,-",
+        ),
+        (
+            "extensions/e/extension.json",
+            "{\"caption\":\"c\",\"name\":\"e\",\"uid\":9,\"version\":\"1\"}",
+            "e 9 c 1",
+        ),
+    ];
+    for (path, text, want) in rows {
+        assert_eq!(rt; said(&rt, path, text)?.as_str(), want, "at {path}");
     }
     Ok(())
 }
