@@ -7,7 +7,11 @@ use ocsf_tree::{EnumMember, Member, Row, Text, Tree};
 use std::alloc::{AllocError, Global};
 
 /// Adds the member, where it has a value.
-pub fn put_field(members: &mut Row<Member>, name: &str, value: Option<Tree>) -> Result<(), AllocError>
+pub fn put_field(
+    members: &mut Row<Member>,
+    name: &str,
+    value: Option<Tree>,
+) -> Result<(), AllocError>
     ensures { OnOk result (members.new ≡ members.old ++ shown (name.now, value)) }
 {
     if let Some(value) = value {
@@ -70,7 +74,11 @@ fn enum_member_of(alloc: Global, member: &EnumMember) -> Result<Tree, AllocError
         "caption",
         word_field(alloc, member.caption.as_str())?,
     )?;
-    put_field(&mut members, "description", words_field(&member.description)?)?;
+    put_field(
+        &mut members,
+        "description",
+        words_field(&member.description)?,
+    )?;
     Ok(Tree::Members(members))
 }
 
@@ -95,4 +103,3 @@ pub fn enumeration_field(alloc: Global, list: &[EnumMember]) -> Result<Option<Tr
         [..] => Ok(Some(Tree::Members(enum_members(alloc, list)?))),
     }
 }
-

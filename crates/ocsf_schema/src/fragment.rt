@@ -2,7 +2,9 @@
 ghost use Rattle.std.specs.Prelude.{◌≡◌, ◌<◌, ◌^◌, IfOk, OnOk, IfSome, map};
 ghost use Rattle.ocsf_schema.specs.Print.{words, number, requirement_text, type_text, object_key, attribute_tree, attribute_member, constraints, fragment_tree};
 
-use crate::fields::{enumeration_field, flag_field, put_field, texts_field, word_field, words_field};
+use crate::fields::{
+    enumeration_field, flag_field, put_field, texts_field, word_field, words_field,
+};
 use crate::{Attr, Item, Target};
 use ocsf_tree::{Member, Requirement, Row, Tree};
 use std::alloc::{AllocError, Global};
@@ -76,7 +78,11 @@ fn attribute_of(alloc: Global, attr: &Attr) -> Result<Tree, AllocError>
         word_field(alloc, requirement_of(attr.requirement))?,
     )?;
     put_field(&mut members, "sibling", words_field(&attr.sibling)?)?;
-    put_field(&mut members, "type", word_field(alloc, type_of(&attr.target))?)?;
+    put_field(
+        &mut members,
+        "type",
+        word_field(alloc, type_of(&attr.target))?,
+    )?;
     Ok(Tree::Members(members))
 }
 
