@@ -8,11 +8,13 @@ mod edits;
 mod faults;
 mod files;
 mod judgement;
+mod laws;
 mod outcome;
 mod replies;
 mod status;
 
 pub use command::run;
+pub use laws::last_put_decides;
 pub use status::Status;
 
 #[cfg(test)]
