@@ -1,8 +1,5 @@
-use crate::{
-    CategoryEntry, DictFile, ItemFile, Mark, RawAttr, RawError, RawFile, first_form, has_form,
-    is_path, is_reference, shape,
-};
-use ocsf_tree::{EnumMember, Text, read};
+use crate::{RawError, first_form, has_form, is_path, is_reference, shape};
+use ocsf_tree::{Text, read};
 use std::test::Fail;
 
 fn refusal(rt: &HostRuntime, path: &str, text: &[u8]) -> Result<Text, Fail> {
@@ -253,201 +250,54 @@ fn reads_the_first_form(rt: HostRuntime) -> Result<(), Fail> {
     Ok(())
 }
 
-// The text, or `-` where none is given.
-fn or_dash(text: &Option<Text>) -> &str {
-    match text {
-        Some(text) => text.as_str(),
-        None => "-",
-    }
-}
-
-fn push_all(out: &mut String, texts: &[Text]) -> Result<(), Fail> {
-    for text in texts {
-        write!(out, "+{}", text.as_str())?;
-    }
-    Ok(())
-}
-
-fn push_members(out: &mut String, members: &[EnumMember]) -> Result<(), Fail> {
-    for member in members {
-        write!(
-            out,
-            " {}={},{}",
-            member.key.as_str(),
-            member.caption.as_str(),
-            or_dash(&member.description)
-        )?;
-    }
-    Ok(())
-}
-
-fn push_entries(out: &mut String, entries: &[RawAttr]) -> Result<(), Fail> {
-    for entry in entries {
-        let mark = match &entry.mark {
-            Mark::Unsaid => "unsaid",
-            Mark::Cleared => "cleared",
-            Mark::Named(name) => name.as_str(),
-        };
-        write!(
-            out,
-            "; {} {} {} {} {} {:?} {} {:?} {} {}",
-            entry.name.as_str(),
-            entry.removed,
-            or_dash(&entry.caption),
-            or_dash(&entry.description),
-            or_dash(&entry.type_name),
-            entry.is_array,
-            or_dash(&entry.sibling),
-            entry.requirement,
-            mark,
-            or_dash(&entry.group)
-        )?;
-        push_members(out, entry.members.as_slice())?;
-    }
-    Ok(())
-}
-
-fn push_categories(out: &mut String, entries: &[CategoryEntry]) -> Result<(), Fail> {
-    for entry in entries {
-        write!(
-            out,
-            "{} {} {} {}",
-            entry.name.as_str(),
-            or_dash(&entry.caption),
-            or_dash(&entry.description),
-            entry.uid
-        )?;
-    }
-    Ok(())
-}
-
-fn push_dictionary(out: &mut String, file: &DictFile) -> Result<(), Fail> {
-    for entry in file.attributes.as_slice() {
-        write!(
-            out,
-            "{} {} {} {} {:?} {}",
-            entry.name.as_str(),
-            or_dash(&entry.caption),
-            or_dash(&entry.description),
-            or_dash(&entry.type_name),
-            entry.is_array,
-            or_dash(&entry.sibling)
-        )?;
-        push_members(out, entry.members.as_slice())?;
-    }
-    for entry in file.types.as_slice() {
-        write!(
-            out,
-            "; {} {} {} {} {} {:?} {:?}",
-            entry.name.as_str(),
-            or_dash(&entry.caption),
-            or_dash(&entry.description),
-            or_dash(&entry.parent),
-            or_dash(&entry.pattern),
-            entry.range,
-            entry.max_len
-        )?;
-        if let Some(values) = &entry.values {
-            write!(out, " {}", values.len())?;
-        }
-    }
-    Ok(())
-}
-
-fn push_item(out: &mut String, file: &ItemFile) -> Result<(), Fail> {
-    write!(
-        out,
-        "{} {} {} {} {} {:?}",
-        or_dash(&file.name),
-        or_dash(&file.caption),
-        or_dash(&file.description),
-        or_dash(&file.parent),
-        or_dash(&file.category),
-        file.uid
-    )?;
-    push_all(out, file.profiles.as_slice())?;
-    push_all(out, file.includes.as_slice())?;
-    for constraint in [&file.at_least_one, &file.just_one] {
-        if let Some(names) = constraint {
-            out.push_str(" of")?;
-            push_all(out, names.as_slice())?;
-        }
-    }
-    push_entries(out, file.attributes.as_slice())
-}
-
-// What the record of that file says.
-fn said(rt: &HostRuntime, path: &str, text: &str) -> Result<String, Fail> {
-    let alloc = rt.alloc();
-    let tree = read(alloc, text.as_bytes())?;
-    let mut out = String::new(alloc);
-    match shape(alloc, path, &tree)? {
-        RawFile::Version(version) => out.push_str(version.as_str())?,
-        RawFile::Categories(entries) => push_categories(&mut out, entries.as_slice())?,
-        RawFile::Dictionary(file) => push_dictionary(&mut out, &file)?,
-        RawFile::Item(file) => push_item(&mut out, &file)?,
-        RawFile::Profile(file) => {
-            write!(
-                out,
-                "{} {} {} {} {:?}",
-                file.name.as_str(),
-                or_dash(&file.caption),
-                or_dash(&file.description),
-                or_dash(&file.group),
-                file.requirement
-            )?;
-            push_entries(&mut out, file.attributes.as_slice())?;
-        }
-        RawFile::Include(entries) => push_entries(&mut out, entries.as_slice())?,
-        RawFile::Extension(file) => write!(
-            out,
-            "{} {} {} {}",
-            file.name.as_str(),
-            file.uid,
-            or_dash(&file.caption),
-            or_dash(&file.version)
-        )?,
-    }
-    Ok(out)
-}
-
 #[test]
-fn says_what_is_written(rt: HostRuntime) -> Result<(), Fail> {
-    let rows: [(&str, &str, &str); 7] = [
-        ("version.json", "{\"version\":\"1.3.0\"}", "1.3.0"),
+fn reads_each_member(rt: HostRuntime) -> Result<(), Fail> {
+    let alloc = rt.alloc();
+    let rows: [(&str, &str, &str); 8] = [
+        (
+            "version.json",
+            "{\"version\":\"1\"}",
+            "Version(Text { inner: \"1\" })",
+        ),
         (
             "categories.json",
             "{\"attributes\":{\"a\":null,\"b\":{\"caption\":\"c\",\"description\":\"d\",\"uid\":7}}}",
-            "b c d 7",
+            "Categories(Row { items: [CategoryEntry { name: Text { inner: \"b\" }, caption: Some(Text { inner: \"c\" }), description: Some(Text { inner: \"d\" }), uid: 7 }] })",
         ),
         (
             "dictionary.json",
-            "{\"attributes\":{\"a\":{\"caption\":\"c\",\"description\":\"d\",\"enum\":{\"$include\":1,\"1\":{\"caption\":\"One\",\"description\":\"e\"},\"2\":{},\"3\":null},\"is_array\":true,\"sibling\":\"s\",\"type\":\"t\"},\"b\":null},\"types\":{\"attributes\":{\"t\":{\"caption\":\"c\",\"description\":\"d\",\"max_len\":9,\"range\":[-1,2],\"regex\":\"r\",\"type\":\"p\",\"values\":[1,null]}}}}",
-            "a c d t Some(true) s 1=One,e 2=2,-; t c d p r Some(Span { low: -1, high: 2 }) Some(9) 2",
+            "{\"attributes\":{\"a\":{\"caption\":\"c\",\"description\":\"d\",\"enum\":{\"1\":{\"caption\":\"f\",\"description\":\"e\"}},\"is_array\":true,\"sibling\":\"s\",\"type\":\"t\"},\"b\":null}}",
+            "Dictionary(DictFile { attributes: Row { items: [DictEntry { name: Text { inner: \"a\" }, caption: Some(Text { inner: \"c\" }), description: Some(Text { inner: \"d\" }), type_name: Some(Text { inner: \"t\" }), is_array: Some(true), members: Row { items: [EnumMember { key: Text { inner: \"1\" }, caption: Text { inner: \"f\" }, description: Some(Text { inner: \"e\" }) }] }, sibling: Some(Text { inner: \"s\" }) }] }, types: Row { items: [] } })",
+        ),
+        (
+            "dictionary.json",
+            "{\"types\":{\"attributes\":{\"t\":{\"caption\":\"c\",\"description\":\"d\",\"max_len\":9,\"range\":[-1,2],\"regex\":\"r\",\"type\":\"p\",\"values\":[1,null]}}}}",
+            "Dictionary(DictFile { attributes: Row { items: [] }, types: Row { items: [TypeEntry { name: Text { inner: \"t\" }, caption: Some(Text { inner: \"c\" }), description: Some(Text { inner: \"d\" }), parent: Some(Text { inner: \"p\" }), pattern: Some(Text { inner: \"r\" }), range: Some(Span { low: -1, high: 2 }), max_len: Some(9), values: Some(Row { items: [Whole(1), Null] }) }] } })",
         ),
         (
             "events/a.json",
-            "{\"attributes\":{\"$include\":[\"includes/i.json\",\"profiles/p.json\"],\"x\":null,\"y\":{\"profile\":\"p\"}},\"caption\":\"c\",\"category\":\"k\",\"constraints\":{\"at_least_one\":[\"x\"],\"just_one\":[]},\"description\":\"d\",\"extends\":\"b\",\"name\":\"a\",\"profiles\":[\"p\",\"e/q\"],\"uid\":5}",
-            "a c d b k Some(5)+p+e/q+includes/i.json+profiles/p.json of+x of; x true - - - None - None unsaid -; y false - - - None - None p -",
+            "{\"attributes\":{\"$include\":\"includes/i.json\"},\"caption\":\"c\",\"category\":\"k\",\"constraints\":{\"at_least_one\":[\"x\"],\"just_one\":[]},\"description\":\"d\",\"extends\":\"b\",\"name\":\"a\",\"profiles\":[\"p\"],\"uid\":5}",
+            "Item(ItemFile { side: Class, name: Some(Text { inner: \"a\" }), caption: Some(Text { inner: \"c\" }), description: Some(Text { inner: \"d\" }), parent: Some(Text { inner: \"b\" }), category: Some(Text { inner: \"k\" }), uid: Some(5), profiles: Row { items: [Text { inner: \"p\" }] }, includes: Row { items: [Text { inner: \"includes/i.json\" }] }, attributes: Row { items: [] }, at_least_one: Some(Row { items: [Text { inner: \"x\" }] }), just_one: Some(Row { items: [] }) })",
         ),
         (
             "profiles/p.json",
-            "{\"annotations\":{\"group\":\"g\",\"requirement\":\"recommended\"},\"caption\":\"c\",\"description\":\"d\",\"name\":\"p\"}",
-            "p c d g Some(Recommended)",
+            "{\"annotations\":{\"group\":\"g\",\"requirement\":\"recommended\"},\"attributes\":{\"x\":null},\"caption\":\"c\",\"description\":\"d\",\"name\":\"p\"}",
+            "Profile(ProfileFile { name: Text { inner: \"p\" }, caption: Some(Text { inner: \"c\" }), description: Some(Text { inner: \"d\" }), group: Some(Text { inner: \"g\" }), requirement: Some(Recommended), attributes: Row { items: [RawAttr { name: Text { inner: \"x\" }, removed: true, caption: None, description: None, type_name: None, is_array: None, members: Row { items: [] }, sibling: None, requirement: None, mark: Unsaid, group: None }] } })",
         ),
         (
             "includes/i.json",
-            "{\"attributes\":{\"y\":{\"caption\":\"c\",\"description\":\"d\",\"enum\":{\"\":{}},\"group\":\"g\",\"is_array\":false,\"profile\":null,\"requirement\":\"optional\",\"sibling\":\"s\",\"type\":\"e/t\"}}}",
-            "; y false c d e/t Some(false) s Some(Optional) cleared g =,-",
+            "{\"attributes\":{\"y\":{\"caption\":\"c\",\"description\":\"d\",\"enum\":{\"$include\":1,\"2\":{},\"3\":null},\"group\":\"g\",\"is_array\":false,\"profile\":null,\"requirement\":\"optional\",\"sibling\":\"s\",\"type\":\"e/t\"}}}",
+            "Include(Row { items: [RawAttr { name: Text { inner: \"y\" }, removed: false, caption: Some(Text { inner: \"c\" }), description: Some(Text { inner: \"d\" }), type_name: Some(Text { inner: \"e/t\" }), is_array: Some(false), members: Row { items: [EnumMember { key: Text { inner: \"2\" }, caption: Text { inner: \"2\" }, description: None }] }, sibling: Some(Text { inner: \"s\" }), requirement: Some(Optional), mark: Cleared, group: Some(Text { inner: \"g\" }) }] })",
         ),
         (
             "extensions/e/extension.json",
             "{\"caption\":\"c\",\"name\":\"e\",\"uid\":9,\"version\":\"1\"}",
-            "e 9 c 1",
+            "Extension(ExtFile { name: Text { inner: \"e\" }, uid: 9, caption: Some(Text { inner: \"c\" }), version: Some(Text { inner: \"1\" }) })",
         ),
     ];
     for (path, text, want) in rows {
-        assert_eq!(rt; said(&rt, path, text)?.as_str(), want, "at {path}");
+        let file = shape(alloc, path, &read(alloc, text.as_bytes())?)?;
+        assert_eq!(rt; format!(in alloc; "{file:?}")?.as_str(), want, "at {path}");
     }
     Ok(())
 }
