@@ -15,9 +15,12 @@ use std::alloc::{AllocError, Global};
 // The longest compact text of a file, in bytes.
 const MAX_FILE_LEN: usize = 2097152;
 
+/// Why a file has no record.
 #[derive(Debug, Drop)]
 pub enum RawError {
+    /// The tree isn't one of a file at that path.
     Fault(Fault),
+    /// No memory was left.
     Memory,
 }
 
