@@ -8,7 +8,8 @@ use std::alloc::{AllocError, Global};
 use std::process::ExitCode;
 use std::{env, io};
 
-const USAGE: &str = "usage: ocsf edits | session [STORE] | compile DIR | validate DIR | translate DIR | workload N";
+const USAGE: &str =
+    "usage: ocsf edits | session [STORE] | compile DIR | validate DIR | translate DIR | workload N";
 
 /// The words behind the program's name; none where they are no text.
 fn words(rt: &HostRuntime, alloc: Global) -> Result<Row<Text>, AllocError> {

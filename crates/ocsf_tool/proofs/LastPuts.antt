@@ -26,7 +26,7 @@ after_object : (name : List ℕ) (file : ItemFile) (objects : List ItemFile) (la
     ≡ option_or (option_or later (if bytes_eq (object_name file) name then Some file else None)) (at_name object_name name objects)
 after_object name file objects later =
     elim (bytes_eq (object_name file) name) as (λ b. bytes_eq (object_name file) name ≡ b
-      → option_or later (at_name object_name name (put_by_name object_name file objects)) ≡ option_or (option_or later (cond b (Some file) None)) (at_name object_name name objects)) [
+    → option_or later (at_name object_name name (put_by_name object_name file objects)) ≡ option_or (option_or later (cond b (Some file) None)) (at_name object_name name objects)) [
       | true ↦ λ e.
           let same : object_name file ≡ name = (bytes_eq-Decides (object_name file) name).0 e in
           let tied : text_cmp name (object_name file) ≡ Equal = subst (λ (n : List ℕ). text_cmp n (object_name file) ≡ Equal) same (text_cmp-same (object_name file)) in

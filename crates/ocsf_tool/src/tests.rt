@@ -7,11 +7,14 @@ use ocsf_tree::{Row, Text};
 use std::alloc::{AllocError, Global};
 use std::test::Fail;
 
-const NOTHING: &str = r#"{"categories":{"other":{"caption":"Uncategorized","uid":0}},"classes":{},"dictionary":{},"extensions":{},"objects":{},"profiles":{},"types":{},"version":""}"#;
+const NOTHING: &str =
+    r#"{"categories":{"other":{"caption":"Uncategorized","uid":0}},"classes":{},"dictionary":{},"extensions":{},"objects":{},"profiles":{},"types":{},"version":""}"#;
 
-const DICTIONARY: &str = r#"{"put":"dictionary.json","body":{"attributes":{"name":{"caption":"Name","type":"string_t"}}}}"#;
+const DICTIONARY: &str =
+    r#"{"put":"dictionary.json","body":{"attributes":{"name":{"caption":"Name","type":"string_t"}}}}"#;
 
-const FILE: &str = r#"{"put":"objects/file.json","body":{"name":"file","caption":"File","attributes":{"name":{"requirement":"required"}}}}"#;
+const FILE: &str =
+    r#"{"put":"objects/file.json","body":{"name":"file","caption":"File","attributes":{"name":{"requirement":"required"}}}}"#;
 
 fn words(alloc: Global, list: &[&str]) -> Result<Row<Text>, AllocError> {
     let mut words = Row::new(alloc);
@@ -50,11 +53,7 @@ fn pieces(alloc: Global, bytes: &[u8], size: u64) -> Result<MemorySource, AllocE
     for _ in bytes {
         sizes.push(size)?;
     }
-    Ok(MemorySource::new(
-        Bytes::of(alloc, bytes)?,
-        sizes,
-        Seq::new(alloc),
-    ))
+    Ok(MemorySource::new(Bytes::of(alloc, bytes)?, sizes, Seq::new(alloc)))
 }
 
 /// A source that is cut after each byte whose bit is set.
@@ -70,11 +69,7 @@ fn cut(alloc: Global, bytes: &[u8], cuts: u32) -> Result<MemorySource, AllocErro
         }
         left /= 2;
     }
-    Ok(MemorySource::new(
-        Bytes::of(alloc, bytes)?,
-        sizes,
-        Seq::new(alloc),
-    ))
+    Ok(MemorySource::new(Bytes::of(alloc, bytes)?, sizes, Seq::new(alloc)))
 }
 
 fn first_call(alloc: Global) -> Result<Seq<u64>, AllocError> {
@@ -88,7 +83,8 @@ fn lines_are_answered_however_they_are_cut(rt: HostRuntime) -> Result<(), Fail> 
     let alloc = rt.alloc();
     let both = format!(in alloc; "[{DICTIONARY},{FILE}]")?;
     let file = format!(in alloc; "[{FILE}]\n")?;
-    let print = r#"{"categories":{"other":{"caption":"Uncategorized","uid":0}},"classes":{},"dictionary":{"name":{"caption":"Name","type":"string_t"}},"extensions":{},"objects":{"file":{"attributes":{"name":{"caption":"Name","requirement":"required","type":"string_t"}},"caption":"File"}},"profiles":{},"types":{},"version":""}"#;
+    let print =
+        r#"{"categories":{"other":{"caption":"Uncategorized","uid":0}},"classes":{},"dictionary":{"name":{"caption":"Name","type":"string_t"}},"extensions":{},"objects":{"file":{"attributes":{"name":{"caption":"Name","requirement":"required","type":"string_t"}},"caption":"File"}},"profiles":{},"types":{},"version":""}"#;
     let whole = format!(in alloc; "{{\"revision\":1}}\n{print}\n")?;
     let rows = [
         ("", "", 0),
@@ -142,9 +138,7 @@ fn plain(alloc: Global, bytes: &str) -> Result<String, AllocError> {
             let reply = format!(in alloc; "{{\"revision\":{revision}}}\n")?;
             out.push_str(&reply)?;
         } else {
-            out.push_str(
-                "{\"refused\":{\"code\":\"not_json\",\"name\":\"\",\"subject\":\"\"}}\n",
-            )?;
+            out.push_str("{\"refused\":{\"code\":\"not_json\",\"name\":\"\",\"subject\":\"\"}}\n")?;
         }
     }
     out.push_str(NOTHING)?;
@@ -161,7 +155,11 @@ fn each_cut_gives_what_the_plain_program_gives(rt: HostRuntime) -> Result<(), Fa
             let mut source = cut(alloc, input.as_bytes(), cuts)?;
             let mut sink = MemorySink::new(alloc, Seq::new(alloc));
             run_over(alloc, &["edits"], &mut source, &mut sink)?;
-            assert_eq!(rt; sink.written(), wanted.as_bytes(), "at {input:?}, cut {cuts}");
+            assert_eq!(rt;
+                sink.written(),
+                wanted.as_bytes(),
+                "at {input:?}, cut {cuts}"
+            );
         }
     }
     Ok(())
@@ -191,7 +189,10 @@ fn faults_and_words(rt: HostRuntime) -> Result<(), Fail> {
     for list in commands {
         let mut source = pieces(alloc, b"[]\n", 1)?;
         let mut sink = MemorySink::new(alloc, Seq::new(alloc));
-        assert_eq!(rt; run_over(alloc, list, &mut source, &mut sink)?, Status::Usage);
+        assert_eq!(rt;
+            run_over(alloc, list, &mut source, &mut sink)?,
+            Status::Usage
+        );
         assert_eq!(rt; sink.written().is_empty(), true);
     }
     Ok(())
