@@ -1,5 +1,5 @@
 // Members of printed objects that may be absent.
-ghost use Rattle.std.specs.Prelude.{◌≡◌, ◌++◌, IfOk, OnOk, Some, map};
+ghost use Rattle.std.specs.Prelude.{◌≡◌, ◌++◌, IfOk, OnOk, OnErr, Some, map};
 ghost use Rattle.ocsf_schema.specs.Print.{shown, words, flag, texts, enum_member_tree, enum_member, enumeration};
 ghost use Rattle.ocsf_tree.specs.declared.tree.Tree.TheVariants as tree;
 
@@ -12,7 +12,8 @@ pub fn put_field(
     name: &str,
     value: Option<Tree>,
 ) -> Result<(), AllocError>
-    ensures { OnOk result (members.new ≡ members.old ++ shown (name.now, value)) }
+    ensures ok { OnOk result (members.new ≡ members.old ++ shown (name.now, value)) }
+    ensures err { OnErr result (members.new ≡ members.old) }
 {
     if let Some(value) = value {
         let name = Text::of(members.allocator(), name)?;
