@@ -1,0 +1,9 @@
+//! The files of a bundle, the edits on them, and what can be asked of them when they are compiled:
+//! the cells.
+#![tactic(auto)]
+
+mod cells;
+mod shows;
+
+pub use cells::{Cell, Part};
+pub use shows::Shows;
