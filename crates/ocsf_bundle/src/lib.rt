@@ -3,7 +3,9 @@
 #![tactic(auto)]
 
 mod cells;
+mod edit;
 mod shows;
 
 pub use cells::{Cell, Part};
+pub use edit::{Change, Edit};
 pub use shows::Shows;
