@@ -1,5 +1,6 @@
 pub mod Compared
 pub mod FirstFound
+pub mod FirstOfEach
 pub mod Joined
 pub mod Keys
 pub mod NameLists

@@ -5,6 +5,7 @@ pub mod CompactText
 pub mod Data
 pub mod Equality
 pub mod FirstInexact
+pub mod FirstOfEach
 pub mod Key
 pub mod Laws
 pub mod Lookup
