@@ -8,6 +8,7 @@ pub mod FirstInexact
 pub mod FirstOfEach
 pub mod Key
 pub mod Laws
+pub mod LeastFault
 pub mod Lookup
 pub mod Place
 pub mod Reading

@@ -1,6 +1,11 @@
+ghost use Rattle.std.specs.Prelude.{◌≡◌};
+ghost use Rattle.std.specs.Ordering.{is_lt};
+ghost use Rattle.ocsf_tree.specs.LeastFault.{fault_cmp, lesser_fault};
+
 use crate::text::Text;
 use crate::try_clone::TryClone;
 use std::alloc::AllocError;
+use std::cmp::Ordering;
 
 /// What is wrong with an edit or with the files after it, in the order in which faults are ranked.
 #[derive(Clone, Copy, Debug, PartialEq, Eq, PartialOrd, Ord, Drop)]
@@ -115,6 +120,48 @@ impl Code {
     }
 }
 
+impl Code {
+    ghost use Rattle.std.specs.Prelude.{◌≡◌};
+    ghost use Rattle.ocsf_tree.specs.LeastFault.{rank};
+
+    /// The rank of the fault. Of several faults the one of the least rank is told.
+    pub fn rank(&self) -> u8
+        ensures { result ≡ rank self.now }
+    {
+        match self {
+            Code::NotJson => 1,
+            Code::NumberNotWhole => 2,
+            Code::PathUnknown => 3,
+            Code::Shape => 4,
+            Code::Limit => 5,
+            Code::Absent => 6,
+            Code::NotBuiltYet => 7,
+            Code::TooMany => 10,
+            Code::ExtensionUnknown => 11,
+            Code::KeyClash => 12,
+            Code::UidTaken => 13,
+            Code::PatchTarget => 14,
+            Code::TypeUnknown => 20,
+            Code::TypeCycle => 21,
+            Code::ChainLimit => 30,
+            Code::ParentUnknown => 31,
+            Code::ExtendsCycle => 32,
+            Code::IncludeUnknown => 40,
+            Code::ProfileUnknown => 41,
+            Code::AttributeUnknown => 50,
+            Code::KindUnknown => 51,
+            Code::CategoryUnknown => 52,
+            Code::ConstraintUnknown => 53,
+            Code::EnumKey => 54,
+            Code::AttributeLimit => 55,
+            Code::UidClash => 60,
+            Code::TooLarge => 61,
+            Code::PatternRefused => 70,
+            Code::LastRevision => 80,
+        }
+    }
+}
+
 impl TryClone for Fault {
     fn try_clone(&self) -> Result<Fault, AllocError> {
         Ok(Fault {
@@ -122,5 +169,36 @@ impl TryClone for Fault {
             subject: self.subject.copy()?,
             name: self.name.copy()?,
         })
+    }
+}
+
+// Whether the one comes before the other: by rank, then by subject, then by name.
+fn comes_before(a: &Fault, b: &Fault) -> bool
+    ensures { result ≡ is_lt (fault_cmp a.now b.now) }
+{
+    match a.code.rank().cmp(&b.code.rank()) {
+        Ordering::Less => true,
+        Ordering::Greater => false,
+        Ordering::Equal => match a.subject.cmp(&b.subject) {
+            Ordering::Less => true,
+            Ordering::Greater => false,
+            Ordering::Equal => a.name.cmp(&b.name) == Ordering::Less,
+        },
+    }
+}
+
+/// The fault, or the least so far if that comes before it or is the same.
+pub fn lesser_fault(least: Option<Fault>, fault: Fault) -> Option<Fault>
+    ensures { result ≡ lesser_fault least fault }
+{
+    match least {
+        Some(least) => {
+            if comes_before(&fault, &least) {
+                Some(fault)
+            } else {
+                Some(least)
+            }
+        }
+        None => Some(fault),
     }
 }

@@ -24,7 +24,7 @@ mod try_clone;
 pub use attribute::{EnumMember, Requirement, Span};
 pub use by_name::{Named, find_by_name};
 pub use equality::is_same;
-pub use fault::{Code, Fault};
+pub use fault::{Code, Fault, lesser_fault};
 pub use key::{Key, Side};
 pub use laws::{
     every_text_reads, keys_go_by_their_texts, places_are_ordered, prints_join,
