@@ -2,10 +2,13 @@
 //! the cells.
 #![tactic(auto)]
 
+mod active;
 mod cells;
 mod edit;
 mod shows;
+mod stored;
 
 pub use cells::{Cell, Part};
 pub use edit::{Change, Edit};
 pub use shows::Shows;
+pub use stored::StoredFile;

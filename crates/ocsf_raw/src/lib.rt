@@ -27,4 +27,4 @@ pub use file_shape::{RawError, shape};
 pub use files::{CategoryEntry, ExtFile, ItemFile, ProfileFile, RawFile};
 pub use first_edit::{FirstPut, first_form};
 pub use names::{is_name, is_path, is_reference};
-pub use path_form::{Form, form_of, has_form};
+pub use path_form::{Form, below, folder, form_of, has_form};

@@ -6,6 +6,7 @@ ghost use Rattle.ocsf_tree.specs.ByName.{IsByName, at_name, put_by_name, text_cm
 
 use crate::row::Row;
 use crate::shared::Shared;
+use crate::text::Text;
 use std::alloc::AllocError;
 
 /// An item of a list that stands in the byte order of its items' names.
@@ -15,6 +16,14 @@ pub trait Named {
 
     fn name(&self) -> &str
         ensures { result.now ≡ name_of self.now };
+}
+
+impl Named for Text {
+    ghost name_of = { λ text. text };
+
+    fn name(&self) -> &str {
+        self.as_str()
+    }
 }
 
 impl<T: Named> Named for Shared<T> {
