@@ -87,7 +87,7 @@ extension_given active = extension_name_in active.file.raw
 
 -- whether the file gives that key
 abbrev pub gives : (ActiveFile → Option (List ℕ)) → List ℕ → ActiveFile → Bool
-gives key q active = option_map_or (bytes_eq q) (key active) false
+gives key q active = option_map_or (λ given. bytes_eq given q) (key active) false
 
 -- the files that give that key
 abbrev pub giving : (ActiveFile → Option (List ℕ)) → List ℕ → List ActiveFile → List ActiveFile

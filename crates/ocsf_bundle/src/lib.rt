@@ -5,6 +5,9 @@
 mod active;
 mod cells;
 mod edit;
+mod groups;
+mod index;
+mod keys;
 mod shows;
 mod stored;
 

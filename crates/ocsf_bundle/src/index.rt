@@ -1,0 +1,137 @@
+ghost use Rattle.std.specs.Prelude.{◌≡◌, ◌++◌, IfOk, OnOk, OnErr};
+ghost use Rattle.ocsf_bundle.specs.Active.{in_layers};
+ghost use Rattle.ocsf_bundle.specs.Groups.{given_by, groups_of};
+ghost use Rattle.ocsf_bundle.specs.Keys.{active_keys};
+ghost use Rattle.ocsf_bundle.specs.Index.{is_dictionary, is_categories, dictionaries, category_files, group_keys, index_of, side_groups};
+
+use crate::active::in_layers;
+use crate::groups::{Group, groups_of};
+use crate::keys::GroupBy;
+use crate::stored::ActiveFile;
+use ocsf_raw::RawFile;
+use ocsf_tree::{Key, Row, Side, TryClone};
+use std::alloc::{AllocError, Global};
+
+/// The groups of classes and of objects.
+#[derive(Debug, Drop)]
+pub struct Sides {
+    pub classes: Row<Group>,
+    pub objects: Row<Group>,
+}
+
+/// The files that count, by what is asked of them.
+#[derive(Debug, Drop)]
+pub struct Index {
+    /// The item files by key.
+    pub items: Sides,
+    /// The patches by the core item that they patch, in layers.
+    pub patches: Sides,
+    /// The profile files by key.
+    pub profiles: Row<Group>,
+    /// The include and profile files by their path below the folder of their extension.
+    pub includes: Row<Group>,
+    /// The extension files by name.
+    pub extensions: Row<Group>,
+    /// The dictionaries, in layers.
+    pub dictionaries: Row<ActiveFile>,
+    /// The files with categories, in layers.
+    pub categories: Row<ActiveFile>,
+    /// The full keys of the items, in order.
+    pub keys: Row<Key>,
+}
+
+fn is_dictionary(file: &ActiveFile) -> bool
+    ensures { result ≡ is_dictionary file.now }
+{
+    matches!(&file.file.get().raw, RawFile::Dictionary(_))
+}
+
+fn is_categories(file: &ActiveFile) -> bool
+    ensures { result ≡ is_categories file.now }
+{
+    matches!(&file.file.get().raw, RawFile::Categories(_))
+}
+
+fn dictionaries(alloc: Global, layered: &[ActiveFile]) -> Result<Row<ActiveFile>, AllocError>
+    ensures { IfOk result (λ made. made ≡ dictionaries layered.now) }
+{
+    let mut made = Row::new(alloc);
+    for file in layered {
+        if !is_dictionary(file) {
+            continue;
+        }
+        made.push(file.try_clone()?)?;
+    }
+    Ok(made)
+}
+
+fn category_files(alloc: Global, layered: &[ActiveFile]) -> Result<Row<ActiveFile>, AllocError>
+    ensures { IfOk result (λ made. made ≡ category_files layered.now) }
+{
+    let mut made = Row::new(alloc);
+    for file in layered {
+        if !is_categories(file) {
+            continue;
+        }
+        made.push(file.try_clone()?)?;
+    }
+    Ok(made)
+}
+
+fn push_keys(keys: &mut Row<Key>, side: Side, groups: &[Group]) -> Result<(), AllocError>
+    ensures { OnOk result (keys.new ≡ keys.old ++ group_keys side groups.now) }
+{
+    for group in groups {
+        keys.push(Key {
+            side,
+            name: group.name.copy()?,
+        })?;
+    }
+    Ok(())
+}
+
+fn item_groups(alloc: Global, files: &[ActiveFile]) -> Result<Sides, AllocError>
+    ensures { IfOk result (λ made. made ≡ side_groups (λ side. given_by (GroupBy.Item side)) files.now) }
+{
+    Ok(Sides {
+        classes: groups_of(alloc, GroupBy::Item(Side::Class), files)?,
+        objects: groups_of(alloc, GroupBy::Item(Side::Object), files)?,
+    })
+}
+
+fn patch_groups(alloc: Global, layered: &[ActiveFile]) -> Result<Sides, AllocError>
+    ensures { IfOk result (λ made. made ≡ side_groups (λ side. given_by (GroupBy.Patched side)) layered.now) }
+{
+    Ok(Sides {
+        classes: groups_of(alloc, GroupBy::Patched(Side::Class), layered)?,
+        objects: groups_of(alloc, GroupBy::Patched(Side::Object), layered)?,
+    })
+}
+
+fn keys_of(alloc: Global, items: &Sides) -> Result<Row<Key>, AllocError>
+    ensures { IfOk result (λ made. made ≡ group_keys Side.Class items.now.classes ++ group_keys Side.Object items.now.objects) }
+{
+    let mut keys = Row::new(alloc);
+    push_keys(&mut keys, Side::Class, items.classes.as_slice())?;
+    push_keys(&mut keys, Side::Object, items.objects.as_slice())?;
+    Ok(keys)
+}
+
+/// The files that count, by what is asked of them. It costs as many steps as an ordering of them.
+pub fn index_of(alloc: Global, files: &[ActiveFile]) -> Result<Index, AllocError>
+    ensures { IfOk result (λ index. index ≡ index_of files.now) }
+{
+    let layered = in_layers(alloc, files)?;
+    let items = item_groups(alloc, files)?;
+    let keys = keys_of(alloc, &items)?;
+    Ok(Index {
+        items,
+        patches: patch_groups(alloc, layered.as_slice())?,
+        profiles: groups_of(alloc, GroupBy::Profile, files)?,
+        includes: groups_of(alloc, GroupBy::Include, files)?,
+        extensions: groups_of(alloc, GroupBy::Extension, files)?,
+        dictionaries: dictionaries(alloc, layered.as_slice())?,
+        categories: category_files(alloc, layered.as_slice())?,
+        keys,
+    })
+}
