@@ -1,3 +1,6 @@
 pub mod Entries
 pub mod Grouped
+pub mod Ordered
+pub mod Kept
+pub mod Looked
 pub mod Orders

@@ -1,9 +1,10 @@
 -- What every cell shows, as questions to the files that count.
-use Rattle.std.specs.Prelude.{ℕ, ◌+◌, List, [], ◌∷◌, ◌++◌, nat_eq, Bool, if◌then◌else◌, codes, drop, length, Option, Some, None, filter, map}
+use Rattle.std.specs.Prelude.{ℕ, List, [], ◌∷◌, ◌&&◌, if◌then◌else◌, codes, Option, Some, None}
 use Rattle.std.specs.Option.{option_and_then, option_map, option_map_or}
-use Rattle.std.specs.List.{filter_map, starts_with}
+use Rattle.std.specs.List.{filter_map, before_first, after_first}
 use Rattle.std.specs.Str.{bytes_eq}
 use Rattle.ocsf_tree.specs.ByName.{at_name}
+use Rattle.ocsf_raw.specs.Names.{is_slash}
 use Rattle.ocsf_raw.specs.declared.dictionary.DictEntry.{DictEntry}
 use Rattle.ocsf_raw.specs.declared.dictionary.TypeEntry.{TypeEntry}
 use Rattle.ocsf_raw.specs.declared.files.RawFile.{RawFile}
@@ -15,7 +16,7 @@ use Rattle.ocsf_raw.specs.declared.files.ProfileFile.{ProfileFile}
 use Rattle.ocsf_bundle.specs.declared.stored.StoredFile.{StoredFile}
 use Rattle.ocsf_bundle.specs.declared.stored.ActiveFile.{ActiveFile}
 use Rattle.ocsf_bundle.specs.Active.{active_files, in_layers, extension_of, extension_name, extension_uid, extension_said}
-use Rattle.ocsf_bundle.specs.Keys.{giving, key_given, patch_given, profile_given, include_given, extension_given}
+use Rattle.ocsf_bundle.specs.Keys.{has_slash, giving, key_given, patch_given, profile_given, include_given, extension_given}
 use Rattle.ocsf_bundle.specs.Looks.{Looks, PatchOf, Included, AsProfile, AsInclude, DictOf, CategoryOf, BuiltIn, Listed}
 
 -- ---- what a file shows
@@ -70,9 +71,9 @@ dict_of name active = option_map (dict_by active) (at_name (λ entry. entry.name
 abbrev pub kind_of : List ℕ → ActiveFile → Option TypeEntry
 kind_of name active = at_name (λ entry. entry.name) name (types_said active.file.raw)
 
--- the name that a key has within an extension
+-- the name of a key `e/name` of that extension
 abbrev pub name_in : ExtFile → List ℕ → Option (List ℕ)
-name_in ext key = if starts_with nat_eq key (ext.name ++ 47 ∷ []) then Some (drop (length ext.name + 1) key) else None
+name_in ext key = if has_slash key && bytes_eq (before_first is_slash key) ext.name then Some (after_first is_slash key) else None
 
 -- the name that a key has where the file stands
 abbrev pub local_name : ActiveFile → List ℕ → Option (List ℕ)

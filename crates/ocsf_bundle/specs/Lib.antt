@@ -2,7 +2,9 @@ pub mod Active
 pub mod FilesLook
 pub mod Groups
 pub mod Index
+pub mod Indexed
 pub mod Keys
 pub mod Looks
+pub mod Parts
 pub mod Shown
 pub mod Stored

@@ -1,4 +1,4 @@
-ghost use Rattle.std.specs.Prelude.{◌≡◌, ◌++◌, IfOk, OnOk, OnErr};
+ghost use Rattle.std.specs.Prelude.{◌≡◌, ◌++◌, [], IfOk, OnOk};
 ghost use Rattle.ocsf_bundle.specs.Active.{in_layers};
 ghost use Rattle.ocsf_bundle.specs.Groups.{given_by, groups_of};
 ghost use Rattle.ocsf_bundle.specs.Keys.{active_keys};
@@ -134,4 +134,28 @@ pub fn index_of(alloc: Global, files: &[ActiveFile]) -> Result<Index, AllocError
         categories: category_files(alloc, layered.as_slice())?,
         keys,
     })
+}
+
+impl Index {
+    /// The index of no files. It takes no memory.
+    pub fn empty(alloc: Global) -> Index
+        ensures { result ≡ index_of [] }
+    {
+        Index {
+            items: Sides {
+                classes: Row::new(alloc),
+                objects: Row::new(alloc),
+            },
+            patches: Sides {
+                classes: Row::new(alloc),
+                objects: Row::new(alloc),
+            },
+            profiles: Row::new(alloc),
+            includes: Row::new(alloc),
+            extensions: Row::new(alloc),
+            dictionaries: Row::new(alloc),
+            categories: Row::new(alloc),
+            keys: Row::new(alloc),
+        }
+    }
 }

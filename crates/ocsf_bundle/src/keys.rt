@@ -24,7 +24,7 @@ pub fn key_of(alloc: Global, active: &ActiveFile, name: &str) -> Result<Text, Al
     }
 }
 
-fn has_slash(name: &str) -> bool
+pub fn has_slash(name: &str) -> bool
     ensures { result ≡ has_slash name.now }
 {
     name.as_bytes().contains(&b'/')

@@ -3,14 +3,17 @@
 #![tactic(auto)]
 
 mod active;
+mod bundle;
 mod cells;
 mod edit;
 mod groups;
 mod index;
 mod keys;
+mod look;
 mod shows;
 mod stored;
 
+pub use bundle::Bundle;
 pub use cells::{Cell, Part};
 pub use edit::{Change, Edit};
 pub use shows::Shows;
