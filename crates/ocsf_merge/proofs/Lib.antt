@@ -1,0 +1,4 @@
+pub mod Folds
+pub mod MergedLists
+pub mod Rows
+pub mod TablesByName

@@ -1,2 +1,5 @@
 pub mod Layers
 pub mod Table
+pub mod Merged
+pub mod Fold
+pub mod Laws

@@ -1,8 +1,12 @@
 //! What the layers of an item say of its attributes, folded layer by layer.
 #![tactic(auto)]
 
+mod laws;
+mod members;
+mod row;
 mod spoken;
 mod table;
 
+pub use laws::{rows_are_those_present, rows_stand_by_name};
 pub use spoken::Spoken;
 pub use table::Table;

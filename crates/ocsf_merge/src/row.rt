@@ -1,0 +1,204 @@
+// A row after one more entry.
+ghost use Rattle.std.specs.Prelude.{◌≡◌, IfOk, []};
+ghost use Rattle.std.specs.Option.{option_or};
+ghost use Rattle.ocsf_merge.specs.Layers.{layer_of, given};
+ghost use Rattle.ocsf_merge.specs.Fold.{over, nothing, row_of, mark_after, type_from_after, group_after, requirement_after};
+
+use crate::members::merged_members;
+use crate::spoken::Spoken;
+use ocsf_raw::{Mark, ProfileFile, RawAttr};
+use ocsf_tree::{Requirement, Row, Text, TryClone};
+use std::alloc::{AllocError, Global};
+
+/// A mark, the extension in which it names a profile, and whether it is a key already.
+#[derive(Debug, Drop)]
+struct MarkSaid {
+    mark: Mark,
+    from: Text,
+    is_key: bool,
+}
+
+/// An attribute of which nothing was said.
+fn nothing(alloc: Global, name: &Text) -> Result<Spoken, AllocError>
+    ensures { IfOk result (λ made. made ≡ nothing name.now) }
+{
+    Ok(Spoken {
+        attr: RawAttr {
+            name: name.copy()?,
+            removed: false,
+            caption: None,
+            description: None,
+            type_name: None,
+            is_array: None,
+            members: Row::new(alloc),
+            sibling: None,
+            requirement: None,
+            mark: Mark::Unsaid,
+            group: None,
+        },
+        type_from: Text::new(alloc),
+        mark_from: Text::new(alloc),
+        mark_is_key: false,
+    })
+}
+
+/// The new value where there is one, else the old one.
+fn later<T: TryClone>(new: &Option<T>, old: &Option<T>) -> Result<Option<T>, AllocError>
+    ensures { IfOk result (λ made. made ≡ option_or new.now old.now) }
+{
+    match new {
+        Some(_) => new.try_clone(),
+        None => old.try_clone(),
+    }
+}
+
+fn mark_after(
+    alloc: Global,
+    from: &str,
+    is_profile: bool,
+    profile_key: &str,
+    mark: &Mark,
+    old: &Spoken,
+) -> Result<MarkSaid, AllocError>
+    ensures { IfOk result (λ made. made ≡ mark_after from.now is_profile profile_key.now mark.now old.now) }
+{
+    match mark {
+        Mark::Unsaid => {
+            if is_profile {
+                Ok(MarkSaid {
+                    mark: Mark::Named(Text::of(alloc, profile_key)?),
+                    from: Text::new(alloc),
+                    is_key: true,
+                })
+            } else {
+                Ok(MarkSaid {
+                    mark: old.attr.mark.try_clone()?,
+                    from: old.mark_from.copy()?,
+                    is_key: old.mark_is_key,
+                })
+            }
+        }
+        Mark::Cleared => Ok(MarkSaid {
+            mark: Mark::Cleared,
+            from: Text::new(alloc),
+            is_key: false,
+        }),
+        Mark::Named(name) => Ok(MarkSaid {
+            mark: Mark::Named(name.copy()?),
+            from: Text::of(alloc, from)?,
+            is_key: false,
+        }),
+    }
+}
+
+fn type_from_after(
+    alloc: Global,
+    from: &str,
+    entry: &RawAttr,
+    old: &Spoken,
+) -> Result<Text, AllocError>
+    ensures { IfOk result (λ made. made ≡ type_from_after from.now entry.now old.now) }
+{
+    match entry.type_name {
+        Some(_) => Text::of(alloc, from),
+        None => old.type_from.copy(),
+    }
+}
+
+fn group_after(
+    entry: &RawAttr,
+    profile: Option<&ProfileFile>,
+    old: &Spoken,
+) -> Result<Option<Text>, AllocError>
+    ensures { IfOk result (λ made. made ≡ group_after entry.now profile.entry old.now) }
+{
+    match (&entry.group, profile) {
+        (Some(group), _) => Ok(Some(group.copy()?)),
+        (None, Some(file)) => later(&file.group, &old.attr.group),
+        (None, None) => old.attr.group.try_clone(),
+    }
+}
+
+fn requirement_after(
+    entry: &RawAttr,
+    profile: Option<&ProfileFile>,
+    old: &Spoken,
+) -> Option<Requirement>
+    ensures { result ≡ requirement_after entry.now profile.entry old.now }
+{
+    match (entry.requirement, profile) {
+        (Some(requirement), _) => Some(requirement),
+        (None, Some(file)) => file.requirement.or(old.attr.requirement),
+        (None, None) => old.attr.requirement,
+    }
+}
+
+fn row_parts(
+    alloc: Global,
+    from: &str,
+    profile: Option<&ProfileFile>,
+    profile_key: &str,
+    entry: &RawAttr,
+    old: &Spoken,
+) -> Result<Spoken, AllocError>
+    ensures { IfOk result (λ made. made ≡ row_of from.now profile_key.now profile.entry entry.now old.now) }
+{
+    let marked = mark_after(
+        alloc,
+        from,
+        profile.is_some(),
+        profile_key,
+        &entry.mark,
+        old,
+    )?;
+    Ok(Spoken {
+        attr: RawAttr {
+            name: entry.name.copy()?,
+            removed: false,
+            caption: later(&entry.caption, &old.attr.caption)?,
+            description: later(&entry.description, &old.attr.description)?,
+            type_name: later(&entry.type_name, &old.attr.type_name)?,
+            is_array: entry.is_array.or(old.attr.is_array),
+            members: merged_members(
+                alloc,
+                entry.members.as_slice(),
+                old.attr.members.as_slice(),
+            )?,
+            sibling: later(&entry.sibling, &old.attr.sibling)?,
+            requirement: requirement_after(entry, profile, old),
+            mark: marked.mark,
+            group: group_after(entry, profile, old)?,
+        },
+        type_from: type_from_after(alloc, from, entry, old)?,
+        mark_from: marked.from,
+        mark_is_key: marked.is_key,
+    })
+}
+
+/// The row after an entry that isn't a removal, in a layer, over the row before.
+pub fn row_after(
+    alloc: Global,
+    from: &str,
+    profile: Option<&ProfileFile>,
+    profile_key: &str,
+    entry: &RawAttr,
+    old: &Spoken,
+) -> Result<Spoken, AllocError>
+    ensures { IfOk result (λ made. made ≡ over (given (layer_of from.now profile.entry profile_key.now []) entry.now) old.now) }
+{
+    row_parts(alloc, from, profile, profile_key, entry, old)
+}
+
+/// The row after an entry that isn't a removal, in a layer, where none was before.
+pub fn first_row(
+    alloc: Global,
+    from: &str,
+    profile: Option<&ProfileFile>,
+    profile_key: &str,
+    entry: &RawAttr,
+) -> Result<Spoken, AllocError>
+    ensures { IfOk result (λ made. made ≡ over (given (layer_of from.now profile.entry profile_key.now []) entry.now) (nothing entry.now.name)) }
+{
+    let none = nothing(alloc, &entry.name)?;
+    row_after(alloc, from, profile, profile_key, entry, &none)
+}
