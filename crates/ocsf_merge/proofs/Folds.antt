@@ -85,13 +85,13 @@ unfolding after_said
 spoken-push a ls l good =
     ap (λ es. present a (until_removal es)) (last_first (entry_of a) ls l)
     ∙ elim (entry_of a l) as (λ (o : Option (Option Spoken)). ((s : Spoken) → o ≡ Some (Some s) → IsEntry a s) → present a (until_removal (cons_option o (reverse (entries_for a ls)))) ≡ after_said a o (spoken a ls)) [
-        | None ↦ λ g. refl
-        | Some o ↦
-            elim o as (λ (o : Option Spoken). ((s : Spoken) → Some o ≡ Some (Some s) → IsEntry a s) → present a (until_removal (o ∷ reverse (entries_for a ls))) ≡ after_said a (Some o) (spoken a ls)) [
-              | None ↦ λ g. refl
-              | Some s ↦ λ g. over_present a s (counting a ls) (g s refl)
-            ]
-      ] good
+      | None ↦ λ g. refl
+      | Some o ↦
+          elim o as (λ (o : Option Spoken). ((s : Spoken) → Some o ≡ Some (Some s) → IsEntry a s) → present a (until_removal (o ∷ reverse (entries_for a ls))) ≡ after_said a (Some o) (spoken a ls)) [
+            | None ↦ λ g. refl
+            | Some s ↦ λ g. over_present a s (counting a ls) (g s refl)
+          ]
+    ] good
 
 -- ---- the rows after a layer
 
@@ -136,10 +136,10 @@ after_layer-table_of ls l ordered =
     let joins = merged-joins entry_name row_name (after_entry l) (keeps_entry l) l.entries ordered.0 in
     let before = IsByName-table_of ls in
     same_lists row_name (after_layer l l.entries (table_of ls)) (table_of (ls ++ l ∷ [])) (joins.by_name (table_of ls) before) (IsByName-table_of (ls ++ l ∷ []))
-      (λ q.
-        let o = at_name entry_name q l.entries in
-        joins.finds q (table_of ls) before
-        ∙ ap (joined entry_name row_name (after_entry l) (keeps_entry l) o) (at_name-table_of ls q)
-        ∙ same_step l q (spoken q ls) o (λ e is. name-at_name entry_name q l.entries e is)
-        ∙ sym (spoken-push q ls l (is_entry l q o (λ e is. name-at_name entry_name q l.entries e is) (λ e is. found_by_key l.entries q e ordered.1 is)))
-        ∙ sym (at_name-table_of (ls ++ l ∷ []) q))
+    (λ q.
+    let o = at_name entry_name q l.entries in
+    joins.finds q (table_of ls) before
+    ∙ ap (joined entry_name row_name (after_entry l) (keeps_entry l) o) (at_name-table_of ls q)
+    ∙ same_step l q (spoken q ls) o (λ e is. name-at_name entry_name q l.entries e is)
+    ∙ sym (spoken-push q ls l (is_entry l q o (λ e is. name-at_name entry_name q l.entries e is) (λ e is. found_by_key l.entries q e ordered.1 is)))
+    ∙ sym (at_name-table_of (ls ++ l ∷ []) q))

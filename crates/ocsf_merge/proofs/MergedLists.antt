@@ -64,7 +64,7 @@ module _ {X : Type 0} (name : X → List ℕ) where
   missed q k xs e h = at_name-below q xs (IsBelow-tied q k xs e h)
 
 module _ {E R : Type 0} (en : E → List ℕ) (rn : R → List ℕ) (join : E → Option R → Option R)
-         (keeps : (e : E) (old : Option R) (new : R) → join e old ≡ Some new → rn new ≡ en e) where
+    (keeps : (e : E) (old : Option R) (new : R) → join e old ≡ Some new → rn new ≡ en e) where
   -- what stands where an entry and a row may be
   abbrev pub joined : Option E → Option R → Option R
   joined None old = old
@@ -194,8 +194,8 @@ module _ {X : Type 0} (name : X → List ℕ) where
       let joins = merged-joins name name newer newer_keeps new up in
       let others = IsByName-first_of_each name xs in
       same_lists name (merged name name newer new (first_of_each name xs)) (first_of_each name (new ++ xs)) (joins.by_name (first_of_each name xs) others) (IsByName-first_of_each name (new ++ xs))
-        (λ q. joins.finds q (first_of_each name xs) others
-          ∙ newer_joined (at_name name q new) (at_name name q (first_of_each name xs))
-          ∙ ap (option_or (at_name name q new)) (at_name-first_of_each name q xs)
-          ∙ sym (at_name-append name q new xs)
-          ∙ sym (at_name-first_of_each name q (new ++ xs)))
+      (λ q. joins.finds q (first_of_each name xs) others
+      ∙ newer_joined (at_name name q new) (at_name name q (first_of_each name xs))
+      ∙ ap (option_or (at_name name q new)) (at_name-first_of_each name q xs)
+      ∙ sym (at_name-append name q new xs)
+      ∙ sym (at_name-first_of_each name q (new ++ xs)))

@@ -43,7 +43,8 @@ over-row_of from key profile e old =
     let requirement = requirement_part e from key profile old in
     λ i. record {
       attr = record {
-        name = e.name; removed = false;
+        name = e.name;
+        removed = false;
         caption = option_or e.caption old.attr.caption;
         description = option_or e.description old.attr.description;
         type_name = option_or e.type_name old.attr.type_name;

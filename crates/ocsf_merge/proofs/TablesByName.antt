@@ -82,6 +82,6 @@ at_name-table_of layers q =
     ∙ (table_joins layers).finds q [] refl
     ∙ ap (λ (o : Option (List ℕ)). joined itself row_name (say layers) (keeps_name layers) o None) (at_name-first_of_each itself q names)
     ∙ elim (at_name itself q names) as (λ (o : Option (List ℕ)). at_name itself q names ≡ o → joined itself row_name (say layers) (keeps_name layers) o None ≡ spoken q layers) [
-        | None ↦ λ e. ap (λ (es : List (Option Spoken)). present q (until_removal (reverse es))) (sym (unnamed q layers e))
-        | Some k ↦ λ e. ap (λ (a : List ℕ). spoken a layers) (name-at_name itself q names k e)
-      ] refl
+      | None ↦ λ e. ap (λ (es : List (Option Spoken)). present q (until_removal (reverse es))) (sym (unnamed q layers e))
+      | Some k ↦ λ e. ap (λ (a : List ℕ). spoken a layers) (name-at_name itself q names k e)
+    ] refl

@@ -21,10 +21,21 @@ merged_members = merged (λ m. m.key) (λ m. m.key) newer
 abbrev pub nothing : List ℕ → Spoken
 nothing name = record {
   attr = record {
-    name = name; removed = false; caption = None; description = None; type_name = None; is_array = None;
-    members = []; sibling = None; requirement = None; mark = Unsaid; group = None;
+    name = name;
+    removed = false;
+    caption = None;
+    description = None;
+    type_name = None;
+    is_array = None;
+    members = [];
+    sibling = None;
+    requirement = None;
+    mark = Unsaid;
+    group = None;
   };
-  type_from = []; mark_from = []; mark_is_key = false;
+  type_from = [];
+  mark_from = [];
+  mark_is_key = false;
 }
 
 -- each field as the new one says it where it does, else as the old one
@@ -83,7 +94,8 @@ row_of from key profile entry old =
     let mark = mark_after from (is_some profile) key entry.mark old in
     record {
       attr = record {
-        name = entry.name; removed = false;
+        name = entry.name;
+        removed = false;
         caption = option_or entry.caption old.attr.caption;
         description = option_or entry.description old.attr.description;
         type_name = option_or entry.type_name old.attr.type_name;

@@ -10,9 +10,9 @@ module _ {E R : Type 0} (entry_name : E → List ℕ) (row_name : R → List ℕ
   with_entry entry rest [] = cons_option (join entry None) (rest [])
   with_entry entry rest (row ∷ rows) =
       by_order (text_cmp (entry_name entry) (row_name row))
-        (cons_option (join entry None) (rest (row ∷ rows)))
-        (cons_option (join entry (Some row)) (rest rows))
-        (row ∷ with_entry entry rest rows)
+      (cons_option (join entry None) (rest (row ∷ rows)))
+      (cons_option (join entry (Some row)) (rest rows))
+      (row ∷ with_entry entry rest rows)
 
   -- the entries joined to the rows: at the name of an entry stands what it and the row there make, and every
   -- other row stays

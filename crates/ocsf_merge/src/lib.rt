@@ -6,6 +6,8 @@ mod members;
 mod row;
 mod spoken;
 mod table;
+#[cfg(test)]
+mod tests;
 
 pub use laws::{rows_are_those_present, rows_stand_by_name};
 pub use spoken::Spoken;

@@ -159,11 +159,7 @@ fn row_parts(
             description: later(&entry.description, &old.attr.description)?,
             type_name: later(&entry.type_name, &old.attr.type_name)?,
             is_array: entry.is_array.or(old.attr.is_array),
-            members: merged_members(
-                alloc,
-                entry.members.as_slice(),
-                old.attr.members.as_slice(),
-            )?,
+            members: merged_members(alloc, entry.members.as_slice(), old.attr.members.as_slice())?,
             sibling: later(&entry.sibling, &old.attr.sibling)?,
             requirement: requirement_after(entry, profile, old),
             mark: marked.mark,
