@@ -1,0 +1,10 @@
+//! Data types: what they lead to, the values that they take, and the numbers of classes and events.
+#![tactic(auto)]
+
+mod accepted;
+mod kinds;
+mod numbers;
+
+pub use accepted::{Which, breaks, fits_base};
+pub use kinds::{KindError, base_of, kind_of};
+pub use numbers::{class_uid, type_uid};
