@@ -45,7 +45,7 @@ ended_at : (types : List TypeEntry) (name : List ℕ) (limits : List Limit) (lef
 ended_at types name limits left now is last =
     let end : last_name (way 32 types name) ≡ now = sym is.same_end ∙ ap last_name last.only in
     let all : limits_of types (way 32 types name) ≡ limits ++ cons_option (option_map limit_of (listed types now)) [] =
-        sym is.same_limits ∙ ap (λ names. limits ++ limits_of types names) last.only in
+    sym is.same_limits ∙ ap (λ names. limits ++ limits_of types names) last.only in
     λ i. kind_at types name (end i) (all i) (base_of (end i))
 
 at_end : (types : List TypeEntry) (now : List ℕ) (b : Option Base) (o : Option TypeEntry) → base_of now ≡ b → listed types now ≡ o → is_end types now ≡ (is_some b || not (is_some o))
@@ -85,10 +85,10 @@ pub one_more : (types : List TypeEntry) (name : List ℕ) (limits more : List Li
 one_more types name limits more limit left now next entry is some at found made pushed to =
     let parent : parent_of types now ≡ next = ap (λ (o : Option TypeEntry). unwrap_or (option_and_then (λ e. e.parent) o) []) (sym found) ∙ sym to in
     let goes : way left types now ≡ now ∷ way (left - 1) types next =
-        way-goes left types now some (at_end types now None (Some entry) (sym at) (sym found)) ∙ ap (λ n. now ∷ way (left - 1) types n) parent in
+    way-goes left types now some (at_end types now None (Some entry) (sym at) (sym found)) ∙ ap (λ n. now ∷ way (left - 1) types n) parent in
     let rest = limits_of types (way (left - 1) types next) in
     let first : cons_option (option_map limit_of (listed types now)) rest ≡ limit ∷ rest =
-        ap (λ (o : Option TypeEntry). cons_option (option_map limit_of o) rest) (sym found) ∙ ap (λ l. l ∷ rest) (sym made) in
+    ap (λ (o : Option TypeEntry). cons_option (option_map limit_of o) rest) (sym found) ∙ ap (λ l. l ∷ rest) (sym made) in
     record {
       same_limits =
           ap (λ ls. ls ++ rest) pushed

@@ -47,8 +47,12 @@ last_name (name ∷ next ∷ rest) = last_name (next ∷ rest)
 -- what a listed type asks of values
 abbrev pub limit_of : TypeEntry → Limit
 limit_of entry = record {
-  type_name = entry.name; max_len = entry.max_len; range = entry.range; pattern = entry.pattern;
-  instant = bytes_eq entry.name (codes "datetime_t"); values = entry.values;
+  type_name = entry.name;
+  max_len = entry.max_len;
+  range = entry.range;
+  pattern = entry.pattern;
+  instant = bytes_eq entry.name (codes "datetime_t");
+  values = entry.values;
 }
 
 -- the limits of the listed types among these

@@ -86,7 +86,10 @@ fn ended(
     mut limits: Row<Limit>,
 ) -> Result<Kind, AllocError>
     ensures { IfOk result (λ made. made ≡ record {
-        name = name.now; base = base; limits = limits ++ cons_option (option_map limit_of (option_copied entry.entry)) [] }) }
+      name = name.now;
+      base = base;
+      limits = limits ++ cons_option (option_map limit_of (option_copied entry.entry)) [];
+    }) }
 {
     if let Some(entry) = entry {
         limits.push(limit_of(entry)?)?;

@@ -4,6 +4,8 @@
 mod accepted;
 mod kinds;
 mod numbers;
+#[cfg(test)]
+mod tests;
 
 pub use accepted::{Which, breaks, fits_base};
 pub use kinds::{KindError, base_of, kind_of};

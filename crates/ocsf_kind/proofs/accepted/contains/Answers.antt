@@ -15,10 +15,13 @@ loop-listed-preserved c =
 
 pub returns-then-is_same : goal.returns-then-is_same
 returns-then-is_same c = (
-    λ yes. (c.loop-listed.listed-index, c.loop-listed-test.true,
-      item c.args.values.now c.loop-listed.listed-index c.listed-item.result c.args.value.now c.loop-listed-test.true c.listed-item.is ∙ sym (c.is_same.ensures.0 c.if-is_same.true)),
-    λ among. refl,
-  )
+  λ yes. (
+    c.loop-listed.listed-index,
+    c.loop-listed-test.true,
+    item c.args.values.now c.loop-listed.listed-index c.listed-item.result c.args.value.now c.loop-listed-test.true c.listed-item.is ∙ sym (c.is_same.ensures.0 c.if-is_same.true),
+  ),
+  λ among. refl,
+)
 
 pub returns : goal.returns
 returns c = (λ no. absurd (false≢true no), λ among. absurd (c.loop-listed.invariant among.0 (omega arith) among.2))
