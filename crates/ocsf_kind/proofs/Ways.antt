@@ -26,7 +26,7 @@ way-goes (suc n) types name h e =
     let same : suc n - 1 ≡ n = omega arith in
     ap (λ b. name ∷ (if b then [] else way n types (parent_of types name))) e ∙ ap (λ k. name ∷ way k types (parent_of types name)) (sym same)
 
-last_name-way : (moves : ℕ) (types : List TypeEntry) (first name : List ℕ) → last_name (first ∷ way moves types name) ≡ last_name (way moves types name)
+pub last_name-way : (moves : ℕ) (types : List TypeEntry) (first name : List ℕ) → last_name (first ∷ way moves types name) ≡ last_name (way moves types name)
 unfolding way
 last_name-way zero types first name = refl
 last_name-way (suc n) types first name = refl

@@ -1,3 +1,4 @@
 pub mod Kinds
 pub mod Accepted
 pub mod Numbers
+pub mod Laws

@@ -3,10 +3,12 @@
 
 mod accepted;
 mod kinds;
+mod laws;
 mod numbers;
 #[cfg(test)]
 mod tests;
 
 pub use accepted::{Which, breaks, fits_base};
 pub use kinds::{KindError, base_of, kind_of};
+pub use laws::cycles_have_no_end;
 pub use numbers::{class_uid, type_uid};
