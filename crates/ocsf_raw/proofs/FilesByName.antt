@@ -15,7 +15,7 @@ use Rattle.ocsf_tree.specs.ByName.{text_cmp, named, is_by_name, IsByName}
 use Rattle.ocsf_tree.proofs.Valid.{first_member_valid}
 use Rattle.ocsf_raw.specs.declared.path_form.Form.{Form}
 use Rattle.ocsf_raw.specs.declared.path_form.Form.TheVariants as form
-use Rattle.ocsf_raw.specs.FirstForm.{members_of}
+use Rattle.ocsf_raw.specs.Members.{members_of}
 use Rattle.ocsf_raw.specs.Wanted.{is_include, is_null}
 use Rattle.ocsf_raw.specs.Content.{members_at, enum_member, enum_members, entry, entry_named, entries, listed_attribute, listed_type, type_members, listed_category, content}
 use Rattle.ocsf_raw.specs.declared.files.RawFile.{RawFile}

@@ -11,7 +11,8 @@ use Rattle.ocsf_tree.specs.Lookup.{member_at}
 use Rattle.ocsf_tree.specs.ByName.{IsByName}
 use Rattle.ocsf_tree.proofs.Valid.{first_item_valid}
 use Rattle.ocsf_raw.specs.declared.first_edit.FirstPut.TheVariants.{Dictionary, Object}
-use Rattle.ocsf_raw.specs.FirstForm.{each_of, items_of, members_of, text_at, has_only, caption_of, typed, dictionary_entry, base_type_of, entries_of, dictionary, required, given_requirement, item_entry, given_entries, object_file, object_named, object, is_object_path, put_at, first_put, first_form_of, IsOrdered}
+use Rattle.ocsf_raw.specs.Members.{each_of, items_of, members_of, text_at}
+use Rattle.ocsf_raw.specs.FirstForm.{has_only, caption_of, typed, dictionary_entry, base_type_of, entries_of, dictionary, required, given_requirement, item_entry, given_entries, object_file, object_named, object, is_object_path, put_at, first_put, first_form_of, IsOrdered}
 use Rattle.ocsf_raw.proofs.MembersByName.{each_by_name}
 use Rattle.ocsf_raw.proofs.Parts.{valid_items, valid_members, valid_member}
 

@@ -33,7 +33,7 @@ use Rattle.ocsf_raw.proofs.Leasts.{less_if, least_alike, none_least, below_least
 
 -- ---- names
 
-same_bytes : (a b : List ℕ) → bytes_eq a b ≡ true → a ≡ b
+pub same_bytes : (a b : List ℕ) → bytes_eq a b ≡ true → a ≡ b
 same_bytes a b e = (bytes_eq-Decides a b).0 e
 
 bytes_eq-self : (a : List ℕ) → bytes_eq a a ≡ true

@@ -1,4 +1,5 @@
 pub mod EachOf
+pub mod Faultless
 pub mod FilesByName
 pub mod FilterMaps
 pub mod FirstForms

@@ -8,7 +8,7 @@ use Rattle.ocsf_tree.specs.declared.tree.Member.{Member}
 use Rattle.ocsf_tree.specs.Valid.{IsValid, IsValidList, IsValidMembers}
 use Rattle.ocsf_tree.specs.Lookup.{member_of, member_at}
 use Rattle.ocsf_tree.proofs.Valid.{items_of_valid, members_of_valid, member_valid}
-use Rattle.ocsf_raw.specs.FirstForm.{items_of, members_of}
+use Rattle.ocsf_raw.specs.Members.{items_of, members_of}
 
 module _ (t : Tree) (v : IsValid t) where
   rolled : IsValid (roll-Tree (out-Tree t))

@@ -25,7 +25,7 @@ use Rattle.ocsf_raw.specs.declared.files.ProfileFile.{ProfileFile}
 use Rattle.ocsf_raw.specs.declared.files.ExtFile.{ExtFile}
 use Rattle.ocsf_raw.specs.declared.path_form.Form.{Form}
 use Rattle.ocsf_raw.specs.declared.path_form.Form.TheVariants as form
-use Rattle.ocsf_raw.specs.FirstForm.{items_of, members_of, text_of, text_at, requirement_named}
+use Rattle.ocsf_raw.specs.Members.{items_of, members_of, text_of, text_at, requirement_named}
 use Rattle.ocsf_raw.specs.Wanted.{include_key, is_include, is_null}
 
 -- ---- members by their kind

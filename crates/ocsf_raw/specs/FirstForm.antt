@@ -6,7 +6,6 @@ use Rattle.ocsf_tree.specs.declared.tree.Tree.{Tree, out-Tree}
 use Rattle.ocsf_tree.specs.declared.tree.Tree.TheOpen.{Tree-F}
 use Rattle.ocsf_tree.specs.declared.tree.Member.{Member}
 use Rattle.ocsf_tree.specs.declared.attribute.Requirement.{Requirement}
-use Rattle.ocsf_tree.specs.declared.attribute.Requirement.TheVariants.{Required, Recommended, Optional}
 use Rattle.ocsf_tree.specs.declared.key.Side.TheVariants as side
 use Rattle.ocsf_tree.specs.Lookup.{member_at}
 use Rattle.ocsf_tree.specs.ByName.{IsByName}
@@ -17,24 +16,8 @@ use Rattle.ocsf_raw.specs.declared.dictionary.DictEntry.{DictEntry}
 use Rattle.ocsf_raw.specs.declared.files.ItemFile.{ItemFile}
 use Rattle.ocsf_raw.specs.declared.first_edit.FirstPut.{FirstPut}
 use Rattle.ocsf_raw.specs.declared.first_edit.FirstPut.TheVariants.{Dictionary, Object}
+use Rattle.ocsf_raw.specs.Members.{each_of, items_of, members_of, text_of, text_at, requirement_named}
 use Rattle.ocsf_raw.specs.Names.{is_name, is_path}
-
--- what f gives for each, where it gives something for each
-abbrev pub each_of : {A B : Type 0} → (A → Option B) → List A → Option (List B)
-each_of f [] = Some []
-each_of f (x ∷ xs) = option_and_then (λ y. option_map (λ ys. y ∷ ys) (each_of f xs)) (f x)
-
-abbrev pub items_of : Tree-F Tree Member → Option (List Tree)
-items_of (Tree-F.List items) = Some items
-items_of _ = None
-
-abbrev pub members_of : Tree-F Tree Member → Option (List Member)
-members_of (Tree-F.Members members) = Some members
-members_of _ = None
-
-abbrev pub text_of : Tree-F Tree Member → Option (List ℕ)
-text_of (Tree-F.Words text) = Some text
-text_of _ = None
 
 -- an object has no other members than those of these names
 abbrev pub are_among : List (List ℕ) → List Member → Bool
@@ -46,10 +29,6 @@ is_within names _ = false
 
 abbrev pub has_only : List (List ℕ) → Tree → Bool
 has_only names tree = is_within names (out-Tree tree)
-
--- a member that is a text
-abbrev pub text_at : List ℕ → Tree → Option (List ℕ)
-text_at name tree = option_and_then (λ t. text_of (out-Tree t)) (member_at name tree)
 
 -- a caption that is a text, or none
 abbrev pub given_text : Option Tree → Option (Option (List ℕ))
@@ -92,12 +71,6 @@ dictionary body =
     then option_map (λ entries. record { attributes = entries; types = [] })
     (option_and_then (entries_of dictionary_entry) (member_at (codes "attributes") body))
     else None
-
-abbrev pub requirement_named : List ℕ → Option Requirement
-requirement_named text =
-    if bytes_eq text (codes "required") then Some Required
-    else (if bytes_eq text (codes "recommended") then Some Recommended
-    else (if bytes_eq text (codes "optional") then Some Optional else None))
 
 -- a requirement, or none
 abbrev pub given_requirement : Option Tree → Option (Option Requirement)

@@ -1,5 +1,6 @@
 pub mod Names
 pub mod Forms
+pub mod Members
 pub mod FirstForm
 pub mod What
 pub mod Wanted
@@ -7,4 +8,5 @@ pub mod Least
 pub mod Shape
 pub mod Content
 pub mod FileShape
+pub mod EditShape
 pub mod Ordered

@@ -1,15 +1,16 @@
--- What is wanted of a file: at the place of a tree, of the items of a list and of the members of an
--- object.
-use Rattle.std.specs.Prelude.{ℕ, ℤ, pos, Bool, true, false, not, ◌&&◌, ◌||◌, ◌==◌, nat_le, int_le, List, [], ◌∷◌, length, if◌then◌else◌, codes, Option, Some, None}
+-- What is wanted of a file or an edit: at the place of a tree, of the items of a list and of the members
+-- of an object.
+use Rattle.std.specs.Prelude.{ℕ, ℤ, ◌+◌, pos, Bool, true, false, not, ◌&&◌, ◌||◌, ◌==◌, nat_le, int_le, List, [], ◌∷◌, length, if◌then◌else◌, codes, Option, Some, None}
 use Rattle.std.specs.Str.{bytes_eq}
 use Rattle.ocsf_tree.specs.declared.tree.Tree.{Tree}
 use Rattle.ocsf_tree.specs.declared.tree.Tree.TheOpen.{Tree-F}
 use Rattle.ocsf_tree.specs.declared.tree.Member.{Member}
 use Rattle.ocsf_tree.specs.declared.attribute.Span.{Span}
+use Rattle.ocsf_tree.specs.Lookup.{member_of}
 use Rattle.ocsf_tree.specs.declared.key.Side.{Side}
 use Rattle.ocsf_tree.specs.declared.key.Side.TheVariants as side
 use Rattle.ocsf_raw.specs.declared.what.What.{What}
-use Rattle.ocsf_raw.specs.declared.what.What.TheVariants.{NotAnObject, NotAList, NotAText, NotAWhole, NotAFlag, BadName, BadPath, NotARequirement, NestedInclude, NotTwo, OutOfRange, TooLong}
+use Rattle.ocsf_raw.specs.declared.what.What.TheVariants.{NotAnObject, NotAList, NotAText, NotAWhole, NotAFlag, BadName, BadPath, NotARequirement, NestedInclude, NotTwo, OutOfRange, TooLong, NotOne}
 use Rattle.ocsf_raw.specs.declared.wanted.Wanted.{Wanted}
 use Rattle.ocsf_raw.specs.declared.wanted.Wanted.TheVariants.{Plain, Listed, Object, Refused}
 use Rattle.ocsf_raw.specs.declared.wanted.Plain.{Plain as Plains}
@@ -90,6 +91,7 @@ list_fault listed.References t = some_list t
 list_fault listed.Range t = range_fault t
 list_fault listed.Values t = some_list t
 list_fault listed.Includes t = includes_fault t
+list_fault listed.Changes t = some_list t
 
 abbrev pub some_object : Tree-F Tree Member → Option What
 some_object (Tree-F.Members members) = None
@@ -99,8 +101,27 @@ abbrev pub entry_fault : Tree-F Tree Member → Option What
 entry_fault Tree-F.Null = None
 entry_fault t = some_object t
 
+-- one where the member is there
+abbrev pub there : Option Tree → ℕ
+there None = 0
+there (Some t) = 1
+
+-- how many of the four kinds of change the members of an object give
+abbrev pub kind_count : Tree-F Tree Member → ℕ
+kind_count t =
+    there (member_of (codes "put") t) + there (member_of (codes "remove") t)
+    + there (member_of (codes "enable") t) + there (member_of (codes "disable") t)
+
+abbrev pub one_kind_fault : ℕ → Option What
+one_kind_fault count = if count == 1 then None else Some NotOne
+
+abbrev pub change_fault : Tree-F Tree Member → Option What
+change_fault (Tree-F.Members members) = one_kind_fault (kind_count (Tree-F.Members members))
+change_fault _ = Some NotAnObject
+
 abbrev pub object_fault : Objects → Tree-F Tree Member → Option What
 object_fault object.Entry t = entry_fault t
+object_fault object.Change t = change_fault t
 object_fault _ t = some_object t
 
 abbrev pub fault_here : Wanted → Tree-F Tree Member → Option What
@@ -117,6 +138,7 @@ item_of_list listed.References = Some (Plain plain.Reference)
 item_of_list listed.Range = Some (Plain plain.Whole)
 item_of_list listed.Values = None
 item_of_list listed.Includes = Some (Plain plain.IncludePath)
+item_of_list listed.Changes = Some (Object object.Change)
 
 abbrev pub item_wanted : Wanted → Option Wanted
 item_wanted (Listed wanted) = item_of_list wanted
@@ -242,6 +264,15 @@ extension_fields =
     ∷ (codes "version", text)
     ∷ []
 
+-- `body` may be any tree
+abbrev pub change_fields : Fields
+change_fields =
+    (codes "disable", Plain plain.Name)
+    ∷ (codes "enable", Plain plain.Name)
+    ∷ (codes "put", text)
+    ∷ (codes "remove", text)
+    ∷ []
+
 -- from names to objects of that kind
 abbrev pub named_entry : Objects → List ℕ → Option Wanted
 named_entry kind name = if is_name name then Some (Object kind) else Some (Refused BadName)
@@ -286,11 +317,13 @@ member_wanted object.Entry = field_of entry_fields
 member_wanted object.EnumMembers = enum_member_at
 member_wanted object.EnumMember = field_of enum_member_fields
 member_wanted object.ExtensionFile = field_of extension_fields
+member_wanted object.Change = field_of change_fields
 
--- `null` counts as absent, except as an entry
+-- `null` counts as absent, except as an entry and in a change
 abbrev pub has_null_entries : Objects → Bool
 has_null_entries object.ItemEntries = true
 has_null_entries object.LayerEntries = true
+has_null_entries object.Change = true
 has_null_entries _ = false
 
 abbrev pub is_null : Tree-F Tree Member → Bool
@@ -300,7 +333,7 @@ is_null _ = false
 abbrev pub counts : Objects → List ℕ → Tree-F Tree Member → Bool
 counts wanted name t = not (is_null t) || (has_null_entries wanted && not (is_include name))
 
--- the names of the members that may not be absent, but for an item's
+-- the names of the members that may not be absent, but for an item's and a change's
 abbrev pub needed : Objects → List (List ℕ)
 needed object.VersionFile = codes "version" ∷ []
 needed object.CategoriesFile = codes "attributes" ∷ []

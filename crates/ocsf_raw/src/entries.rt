@@ -3,17 +3,16 @@ ghost use Rattle.ocsf_tree.specs.declared.tree.Member.{Member};
 ghost use Rattle.std.specs.List.{filter_map};
 ghost use Rattle.ocsf_tree.specs.Lookup.{member_at};
 ghost use Rattle.ocsf_tree.specs.Valid.{IsValid, IsValidMembers};
-ghost use Rattle.ocsf_raw.specs.FirstForm.{text_at};
+ghost use Rattle.ocsf_raw.specs.Members.{text_at};
 ghost use Rattle.ocsf_raw.specs.Content.{enum_members, mark_in, entry_named, dictionary_entry_named, type_named, category_named};
 
 use crate::attribute::{Mark, RawAttr};
 use crate::dictionary::{DictEntry, TypeEntry};
 use crate::files::CategoryEntry;
-use crate::first_edit::text_at;
 use crate::members::is_include;
 use crate::readers::{
     copied_at, flag_at, is_null, length_at, members_at, number_at, requirement_at, span_at,
-    values_at,
+    text_at, values_at,
 };
 use ocsf_tree::{EnumMember, Member, Row, Text, Tree};
 use std::alloc::{AllocError, Global};

@@ -55,7 +55,7 @@ fn file_wanted(form: Form, core: bool) -> Wanted
     })
 }
 
-fn shape_name(alloc: Global, found: &Found) -> Result<Text, AllocError>
+pub fn shape_name(alloc: Global, found: &Found) -> Result<Text, AllocError>
     ensures { IfOk result (λ made. made ≡ shape_name found.now) }
 {
     let place = pointer(alloc, &found.place)?;
@@ -73,7 +73,7 @@ fn is_too_long(alloc: Global, tree: &Tree) -> Result<bool, AllocError>
     Ok(text.len() > MAX_FILE_LEN)
 }
 
-fn fault(alloc: Global, code: Code, path: &str, name: Text) -> Result<Fault, AllocError>
+pub fn fault(alloc: Global, code: Code, path: &str, name: Text) -> Result<Fault, AllocError>
     ensures { IfOk result
         (λ made. made ≡ record { code = code; subject = path.now; name = name }) }
 {

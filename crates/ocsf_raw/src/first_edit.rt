@@ -7,12 +7,14 @@ ghost use Rattle.std.specs.Str.{bytes_eq};
 ghost use Rattle.std.specs.Option.{option_copied};
 ghost use Rattle.ocsf_tree.specs.Lookup.{member_at};
 ghost use Rattle.ocsf_tree.specs.Valid.{IsValid, IsValidList, IsValidMembers};
-ghost use Rattle.ocsf_raw.specs.FirstForm.{are_among, has_only, text_at, caption_of, base_type_of, dictionary_entry, dictionary, each_of, requirement_named, given_requirement, item_entry, given_entries, is_object_path, object_named, object, put_at, first_put, first_form_of, IsOrdered};
+ghost use Rattle.ocsf_raw.specs.Members.{text_at, each_of, requirement_named};
+ghost use Rattle.ocsf_raw.specs.FirstForm.{are_among, has_only, caption_of, base_type_of, dictionary_entry, dictionary, given_requirement, item_entry, given_entries, is_object_path, object_named, object, put_at, first_put, first_form_of, IsOrdered};
 
 use crate::attribute::{Mark, RawAttr};
 use crate::dictionary::{DictEntry, DictFile};
 use crate::files::ItemFile;
 use crate::names::{is_name, is_path};
+use crate::readers::{requirement_named, text_at};
 use ocsf_tree::{Member, Requirement, Row, Side, Text, Tree};
 use std::alloc::{AllocError, Global};
 
@@ -44,16 +46,6 @@ fn has_only(names: &[&str], tree: &Tree) -> bool
     match tree {
         Tree::Members(members) => are_among(names, members.as_slice()),
         _ => false,
-    }
-}
-
-pub fn text_at<'a>(name: &str, tree: &'a Tree) -> Option<&'a Text>
-    requires { IsValid tree.now }
-    ensures { option_copied result ≡ text_at name.now tree.now }
-{
-    match tree.at(name) {
-        Some(Tree::Words(text)) => Some(text),
-        _ => None,
     }
 }
 
@@ -148,20 +140,6 @@ fn dictionary(alloc: Global, body: &Tree) -> Result<Option<DictFile>, AllocError
         attributes,
         types: Row::new(alloc),
     }))
-}
-
-pub fn requirement_named(text: &str) -> Option<Requirement>
-    ensures { result ≡ requirement_named text.now }
-{
-    if text == "required" {
-        Some(Requirement::Required)
-    } else if text == "recommended" {
-        Some(Requirement::Recommended)
-    } else if text == "optional" {
-        Some(Requirement::Optional)
-    } else {
-        None
-    }
 }
 
 fn given_requirement(tree: &Tree) -> Option<Option<Requirement>>

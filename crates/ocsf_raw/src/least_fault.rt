@@ -4,7 +4,7 @@ ghost use Rattle.ocsf_tree.specs.declared.tree.Tree.{out-Tree};
 ghost use Rattle.ocsf_tree.specs.Lookup.{member_in};
 ghost use Rattle.ocsf_tree.specs.Valid.{IsValid, IsValidList, IsValidMembers};
 ghost use Rattle.ocsf_raw.specs.Wanted.{counts};
-ghost use Rattle.ocsf_raw.specs.Shape.{IsLeast, least_fault, is_given, item_needed, names_of_object, names_needed};
+ghost use Rattle.ocsf_raw.specs.Shape.{IsLeast, least_fault, is_given, item_needed, change_needed, names_of_object, names_needed};
 ghost use Rattle.ocsf_raw.specs.Least.{lesser, found_below, fault_of_member, faults_of_items, faults_of_members, faults_missing};
 
 use crate::fault_here::fault_here;
@@ -218,6 +218,7 @@ fn missing_of_object(
             let uid = missing(alloc, members, "uid")?;
             Ok(lesser(name, uid))
         }
+        Object::Change => missing_body(alloc, members),
         _ => Ok(None),
     }
 }
@@ -229,6 +230,18 @@ fn missing_name(alloc: Global, core: bool, members: &[Member]) -> Result<Option<
 {
     if core || !is_given(member_named(members, "extends")) {
         missing(alloc, members, "name")
+    } else {
+        Ok(None)
+    }
+}
+
+// What is put has its file beside it, which may be `null`.
+fn missing_body(alloc: Global, members: &[Member]) -> Result<Option<Found>, AllocError>
+    ensures { IfOk result
+        (λ found. IsLeast (faults_missing (change_needed members.now) members.now) found) }
+{
+    if member_named(members, "put").is_some() && member_named(members, "body").is_none() {
+        missing(alloc, members, "body")
     } else {
         Ok(None)
     }

@@ -5,6 +5,7 @@
 mod attribute;
 mod content;
 mod dictionary;
+mod edit_shape;
 mod entries;
 mod fault_here;
 mod file_shape;
@@ -23,6 +24,7 @@ mod what;
 
 pub use attribute::{Mark, RawAttr};
 pub use dictionary::{DictEntry, DictFile, TypeEntry};
+pub use edit_shape::edit_fault;
 pub use file_shape::{RawError, shape};
 pub use files::{CategoryEntry, ExtFile, ItemFile, ProfileFile, RawFile};
 pub use first_edit::{FirstPut, first_form};

@@ -1,5 +1,5 @@
 ghost use Rattle.std.specs.Prelude.{◌≡◌};
-ghost use Rattle.ocsf_raw.specs.Wanted.{whole_in, field_of, version_fields, category_fields, dictionary_fields, dictionary_entry_fields, type_fields, object_item_fields, constraints_fields, profile_fields, annotations_fields, entry_fields, enum_member_fields, extension_fields, categories_fields, type_table_fields, include_fields, item_fields, named_entry, is_include, item_entry_at, layer_entry_at, enum_member_at, member_wanted, item_wanted, has_null_entries};
+ghost use Rattle.ocsf_raw.specs.Wanted.{whole_in, field_of, version_fields, category_fields, dictionary_fields, dictionary_entry_fields, type_fields, object_item_fields, constraints_fields, profile_fields, annotations_fields, entry_fields, enum_member_fields, extension_fields, change_fields, categories_fields, type_table_fields, include_fields, item_fields, named_entry, is_include, item_entry_at, layer_entry_at, enum_member_at, member_wanted, item_wanted, has_null_entries};
 
 use crate::names::is_name;
 use crate::wanted::{Listed, Object, Plain, Wanted};
@@ -213,6 +213,22 @@ fn extension_field(name: &str) -> Option<Wanted>
     }
 }
 
+fn change_field(name: &str) -> Option<Wanted>
+    ensures { result ≡ field_of change_fields name.now }
+{
+    if name == "disable" {
+        Some(Wanted::Plain(Plain::Name))
+    } else if name == "enable" {
+        Some(Wanted::Plain(Plain::Name))
+    } else if name == "put" {
+        Some(Wanted::Plain(Plain::Text))
+    } else if name == "remove" {
+        Some(Wanted::Plain(Plain::Text))
+    } else {
+        None
+    }
+}
+
 fn categories_field(name: &str) -> Option<Wanted>
     ensures { result ≡ field_of categories_fields name.now }
 {
@@ -329,6 +345,7 @@ pub fn member_wanted(wanted: Object, name: &str) -> Option<Wanted>
         Object::EnumMembers => enum_member_at(name),
         Object::EnumMember => enum_member_field(name),
         Object::ExtensionFile => extension_field(name),
+        Object::Change => change_field(name),
     }
 }
 
@@ -341,13 +358,17 @@ pub fn item_wanted(wanted: Wanted) -> Option<Wanted>
         Wanted::Listed(Listed::References) => Some(Wanted::Plain(Plain::Reference)),
         Wanted::Listed(Listed::Range) => Some(Wanted::Plain(Plain::Whole)),
         Wanted::Listed(Listed::Includes) => Some(Wanted::Plain(Plain::IncludePath)),
+        Wanted::Listed(Listed::Changes) => Some(Wanted::Object(Object::Change)),
         _ => None,
     }
 }
 
-/// Whether a member that is `null` is an entry, and not absent.
+/// Whether a member that is `null` is there: as an entry, or in a change.
 pub fn has_null_entries(wanted: Object) -> bool
     ensures { result ≡ has_null_entries wanted }
 {
-    matches!(wanted, Object::ItemEntries | Object::LayerEntries)
+    matches!(
+        wanted,
+        Object::ItemEntries | Object::LayerEntries | Object::Change
+    )
 }

@@ -3,11 +3,10 @@ ghost use Rattle.std.specs.Option.{option_copied};
 ghost use Rattle.std.specs.List.{filter_map};
 ghost use Rattle.ocsf_tree.specs.declared.tree.Tree.{out-Tree};
 ghost use Rattle.ocsf_tree.specs.Valid.{IsValid, IsValidMembers};
-ghost use Rattle.ocsf_raw.specs.FirstForm.{text_of, text_at};
+ghost use Rattle.ocsf_raw.specs.Members.{text_of, text_at, requirement_named};
 ghost use Rattle.ocsf_raw.specs.Wanted.{is_null};
 ghost use Rattle.ocsf_raw.specs.Content.{flag_at, natural_below, natural_at, requirement_at, list_at, texts_in, texts_at, object_at, members_at, span_at, whole_pair, text_or_empty};
 
-use crate::first_edit::{requirement_named, text_at};
 use ocsf_tree::{Member, Requirement, Row, Span, Text, Tree, TryClone};
 use std::alloc::{AllocError, Global};
 
@@ -18,6 +17,16 @@ pub fn is_null(tree: &Tree) -> bool
     ensures { result ≡ is_null (out-Tree tree.now) }
 {
     matches!(tree, Tree::Null)
+}
+
+pub fn text_at<'a>(name: &str, tree: &'a Tree) -> Option<&'a Text>
+    requires { IsValid tree.now }
+    ensures { option_copied result ≡ text_at name.now tree.now }
+{
+    match tree.at(name) {
+        Some(Tree::Words(text)) => Some(text),
+        _ => None,
+    }
 }
 
 pub fn copied_at(tree: &Tree, name: &str) -> Result<Option<Text>, AllocError>
@@ -87,6 +96,20 @@ pub fn length_at(tree: &Tree, name: &str) -> Option<u64>
     match tree.at(name) {
         Some(Tree::Whole(whole)) => large(*whole),
         _ => None,
+    }
+}
+
+pub fn requirement_named(text: &str) -> Option<Requirement>
+    ensures { result ≡ requirement_named text.now }
+{
+    if text == "required" {
+        Some(Requirement::Required)
+    } else if text == "recommended" {
+        Some(Requirement::Recommended)
+    } else if text == "optional" {
+        Some(Requirement::Optional)
+    } else {
+        None
     }
 }
 

@@ -1,6 +1,7 @@
 use Rattle.std.proofs.Common.{◌≡◌, ◌++◌, drop, option_map}
 use Rattle.ocsf_tree.specs.Valid.{IsValidList}
-use Rattle.ocsf_raw.specs.FirstForm.{each_of, first_put}
+use Rattle.ocsf_raw.specs.Members.{each_of}
+use Rattle.ocsf_raw.specs.FirstForm.{first_put}
 use Rattle.ocsf_raw.proofs.first_edit.first_puts.Given as goal
 
 -- what was made, and what is made of the rest

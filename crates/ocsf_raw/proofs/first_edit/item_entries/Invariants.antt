@@ -1,6 +1,7 @@
 use Rattle.std.proofs.Common.{◌≡◌, ◌++◌, drop, option_map}
 use Rattle.ocsf_tree.specs.Valid.{IsValidMembers}
-use Rattle.ocsf_raw.specs.FirstForm.{each_of, item_entry}
+use Rattle.ocsf_raw.specs.Members.{each_of}
+use Rattle.ocsf_raw.specs.FirstForm.{item_entry}
 use Rattle.ocsf_raw.proofs.first_edit.item_entries.Given as goal
 
 -- what was made, and what is made of the rest
