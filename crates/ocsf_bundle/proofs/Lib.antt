@@ -4,3 +4,4 @@ pub mod Ordered
 pub mod Kept
 pub mod Looked
 pub mod Orders
+pub mod EditsRead

@@ -1,5 +1,5 @@
 -- What an edit says: a list of changes, each of exactly one kind.
-use Rattle.std.specs.Prelude.{◌≡◌, ℕ, List, codes, Bool, true, Option, Some, None, Result, Ok, Err, IsSomeAnd, ⊤}
+use Rattle.std.specs.Prelude.{◌≡◌, ℕ, List, codes, true, Some, None, Result, Ok, Err, IsSomeAnd, ⊤}
 use Rattle.std.specs.List.{AllZip}
 use Rattle.ocsf_tree.specs.declared.tree.Tree.{Tree, out-Tree}
 use Rattle.ocsf_tree.specs.declared.place.Step.{Step}

@@ -8,3 +8,5 @@ pub mod Looks
 pub mod Parts
 pub mod Shown
 pub mod Stored
+pub mod EditContent
+pub mod Edits

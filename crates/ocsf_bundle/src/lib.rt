@@ -6,6 +6,7 @@ mod active;
 mod bundle;
 mod cells;
 mod edit;
+mod edit_laws;
 mod groups;
 mod index;
 mod keys;
@@ -15,6 +16,7 @@ mod stored;
 
 pub use bundle::Bundle;
 pub use cells::{Cell, Part};
-pub use edit::{Change, Edit};
+pub use edit::{Change, Edit, edit_of};
+pub use edit_laws::edits_read_one_way;
 pub use shows::Shows;
 pub use stored::StoredFile;

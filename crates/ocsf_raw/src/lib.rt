@@ -30,3 +30,4 @@ pub use files::{CategoryEntry, ExtFile, ItemFile, ProfileFile, RawFile};
 pub use first_edit::{FirstPut, first_form};
 pub use names::{is_name, is_path, is_reference};
 pub use path_form::{Form, below, folder, form_of, has_form};
+pub use readers::text_at;

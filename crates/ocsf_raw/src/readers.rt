@@ -19,6 +19,7 @@ pub fn is_null(tree: &Tree) -> bool
     matches!(tree, Tree::Null)
 }
 
+/// The member of that name, where it is a text.
 pub fn text_at<'a>(name: &str, tree: &'a Tree) -> Option<&'a Text>
     requires { IsValid tree.now }
     ensures { option_copied result ≡ text_at name.now tree.now }
