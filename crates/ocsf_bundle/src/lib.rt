@@ -7,6 +7,8 @@ mod bundle;
 mod cells;
 mod edit;
 mod edit_laws;
+#[cfg(test)]
+mod edit_tests;
 mod groups;
 mod index;
 mod keys;
