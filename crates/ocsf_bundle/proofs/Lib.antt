@@ -5,3 +5,5 @@ pub mod Kept
 pub mod Looked
 pub mod Orders
 pub mod EditsRead
+
+pub mod CellOrders

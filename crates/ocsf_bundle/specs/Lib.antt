@@ -10,3 +10,4 @@ pub mod Shown
 pub mod Stored
 pub mod EditContent
 pub mod Edits
+pub mod CellOrder
