@@ -1,4 +1,5 @@
 pub mod Active
+pub mod BundleFaults
 pub mod FilesLook
 pub mod Groups
 pub mod Index
