@@ -43,7 +43,7 @@ equal_of Less e = cc
 equal_of Equal e = refl
 equal_of Greater e = cc
 
-same_bytes : (a b : List ℕ) → bytes_eq a b ≡ true → a ≡ b
+pub same_bytes : (a b : List ℕ) → bytes_eq a b ≡ true → a ≡ b
 same_bytes a b e = same_text a b (equal_of (text_cmp a b) (is_eq-slice_cmp a b ∙ e))
 
 even : (r : Ordering) → is_eq (ordering_reverse r) ≡ is_eq r

@@ -1,5 +1,7 @@
+pub mod Afters
 pub mod Entries
 pub mod Grouped
+pub mod NamedMaps
 pub mod Ordered
 pub mod Kept
 pub mod Looked

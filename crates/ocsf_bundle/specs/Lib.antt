@@ -1,4 +1,5 @@
 pub mod Active
+pub mod After
 pub mod BundleFaults
 pub mod FilesLook
 pub mod Groups
@@ -6,6 +7,7 @@ pub mod Index
 pub mod Indexed
 pub mod Keys
 pub mod Looks
+pub mod NamedMap
 pub mod Parts
 pub mod Shown
 pub mod Stored

@@ -13,6 +13,7 @@ mod groups;
 mod index;
 mod keys;
 mod look;
+mod named_map;
 mod shows;
 mod stored;
 
