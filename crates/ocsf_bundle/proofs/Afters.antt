@@ -1,23 +1,30 @@
 -- What stands after changes.
-use Rattle.std.proofs.Common.{◌≡◌, ◌≢◌, ℕ, ◌+◌, ◌<◌, List, [], ◌∷◌, ◌++◌, length, get_or, take, map, Bool, true, false, cond, ◌&&◌, Option, Some, None, unwrap_or, refl, sym, ◌∙◌, ap, subst, append-nil}
-use Rattle.std.specs.Prelude.{⊤}
-use Rattle.std.specs.Option.{option_or, option_and_then, IfSome}
+use Rattle.std.proofs.Common.{◌≡◌, ◌≢◌, ℕ, ◌+◌, ◌<◌, ◌≤◌, List, [], ◌∷◌, ◌++◌, length, get_or, take, map, Bool, true, false, cond, ◌&&◌, Option, Some, None, unwrap_or, refl, sym, ◌∙◌, ap, subst, append-nil, arith, ⊎_elim}
+use Rattle.std.specs.Prelude.{⊤, IsSome}
+use Rattle.std.specs.Option.{option_or, option_and_then, option_map, IfSome}
 use Rattle.std.specs.List.{filter_map, cons_option}
 use Rattle.std.specs.Str.{bytes_eq}
 use Rattle.std.specs.Ordering.{is_eq, is_lt}
 use Rattle.std.specs.declared.cmp.Ordering.{Ordering}
 use Rattle.std.specs.declared.cmp.Ordering.TheVariants.{Less, Equal, Greater}
 use Rattle.std.specs.FinMap.Entries.{below_all, is_sorted}
-use Rattle.std.proofs.lemmas.List.{take_more}
+use Rattle.std.proofs.lemmas.List.{take_more, get_or_default}
 use Rattle.std.proofs.lemmas.List.Elements.{filter_map-append}
-use Rattle.std.proofs.lemmas.Bool.{and_from, and_parts}
+use Rattle.std.proofs.lemmas.Bool.{and_from, and_parts, cases_lt}
 use Rattle.std.proofs.lemmas.Map.Text.{is_eq-slice_cmp}
 use Rattle.ocsf_tree.specs.ByName.{text_cmp, named, at_name, is_by_name, IsByName}
 use Rattle.ocsf_tree.specs.FirstOfEach.{first_of_each}
+use Rattle.ocsf_tree.specs.declared.tree.Tree.{Tree}
+use Rattle.ocsf_tree.specs.declared.fault.Fault.{Fault}
+use Rattle.ocsf_raw.specs.declared.path_form.Form.{Form}
+use Rattle.ocsf_raw.specs.Forms.{form_of}
 use Rattle.ocsf_tree.proofs.NameLists.{same_text}
 use Rattle.ocsf_tree.proofs.FirstOfEach.{same_lists, name-at_name, at_name-append, IsByName-first_of_each, at_name-first_of_each}
 use Rattle.ocsf_bundle.specs.declared.edit.Change.{Change}
-use Rattle.ocsf_bundle.specs.After.{subject_of, last_of, said_of, stands_after, all_after}
+use Rattle.ocsf_bundle.specs.declared.edit.Change.TheVariants as change
+use Rattle.ocsf_bundle.specs.declared.stored.StoredFile.{StoredFile}
+use Rattle.ocsf_bundle.specs.Stored.{stored_path}
+use Rattle.ocsf_bundle.specs.After.{subject_of, file_of_form, file_said, name_said, last_of, said_of, stands_after, all_after, file_after, IsChangeFault, IsChangeFine, AreFine, IsFirstFault}
 use Rattle.ocsf_bundle.proofs.NamedMaps.{flipped}
 use Rattle.ocsf_bundle.proofs.Grouped.{same_bytes}
 
@@ -172,3 +179,61 @@ module _ {X : Type 0} (name : X → List ℕ) (said : Change → Option (Option 
   pub all_after-is : (old : List X) (changes : List Change) (xs : List X) → IsByName name xs → ((q : List ℕ) → at_name name q xs ≡ stands_after name said old changes q) → xs ≡ all_after name said old changes
   all_after-is old changes xs up same =
       same_lists name xs (all_after name said old changes) up (IsByName-all_after old changes) (λ q. same q ∙ sym (at_name-all_after old changes q))
+
+-- ---- what changes say has its name
+
+pub names_own : (c : Change) → IfSome (name_said c) (λ o. IfSome o (λ (x : List ℕ). x ≡ subject_of c))
+names_own (change.Put path tree) = tt
+names_own (change.Remove path) = tt
+names_own (change.Enable name) = refl
+names_own (change.Disable name) = tt
+
+path_kept : (path : List ℕ) (tree : Tree) (o : Option Form) → IfSome (option_map (file_of_form path tree) o) (λ file. stored_path file ≡ path)
+path_kept path tree None = tt
+path_kept path tree (Some form) = refl
+
+pub files_own : (c : Change) → IfSome (file_said c) (λ o. IfSome o (λ file. stored_path file ≡ subject_of c))
+files_own (change.Put path tree) = path_kept path tree (form_of path)
+files_own (change.Remove path) = tt
+files_own (change.Enable name) = tt
+files_own (change.Disable name) = tt
+
+-- ---- what comes of a change depends on what stands at its path alone
+
+pub fine_same : (f g : List ℕ → Option StoredFile) → ((q : List ℕ) → f q ≡ g q) → (c : Change) → IsChangeFine f c → IsChangeFine g c
+fine_same f g same (change.Put path tree) h = h
+fine_same f g same (change.Remove path) h = subst (λ (o : Option StoredFile). IsSome o) (same path) h
+fine_same f g same (change.Enable name) h = h
+fine_same f g same (change.Disable name) h = h
+
+pub fault_same : (f g : List ℕ → Option StoredFile) → ((q : List ℕ) → f q ≡ g q) → (c : Change) (fault : Fault) → IsChangeFault f c fault → IsChangeFault g c fault
+fault_same f g same (change.Put path tree) fault h = h
+fault_same f g same (change.Remove path) fault h = (sym (same path) ∙ h.0, h.1)
+fault_same f g same (change.Enable name) fault h = h
+fault_same f g same (change.Disable name) fault h = h
+
+module _ (old : List StoredFile) (changes : List Change) (i : ℕ) (c : Change) (before : List ℕ → Option StoredFile) (h : i < length changes) (at : c ≡ get_or changes i c) (same : (q : List ℕ) → before q ≡ file_after old (take i changes) q) where
+  -- one change more with which nothing is wrong
+  pub fine-more : AreFine old changes i → IsChangeFine before c → AreFine old changes (i + 1)
+  fine-more fine here k d below =
+      ⊎_elim
+      (λ (less : k < i). fine k d less)
+      (λ (not_less : i ≤ k).
+        let e : i ≡ k = omega arith in
+        let there : c ≡ get_or changes k d = at ∙ get_or_default changes i c d h ∙ ap (λ j. get_or changes j d) e in
+        let one : IsChangeFine (file_after old (take i changes)) c = fine_same before (file_after old (take i changes)) same c here in
+        let two : IsChangeFine (file_after old (take k changes)) c = subst (λ (j : ℕ). IsChangeFine (file_after old (take j changes)) c) e one in
+        subst (IsChangeFine (file_after old (take k changes))) there two)
+      (cases_lt k i)
+
+  -- the first change with which something is wrong
+  pub first-fault : (fault : Fault) → AreFine old changes i → IsChangeFault before c fault → IsFirstFault old changes fault
+  first-fault fault fine here = record {
+    at = i;
+    within = h;
+    fine = fine;
+    faulty = λ d.
+        let there : c ≡ get_or changes i d = at ∙ get_or_default changes i c d h in
+        let one : IsChangeFault (file_after old (take i changes)) c fault = fault_same before (file_after old (take i changes)) same c fault here in
+        subst (λ (x : Change). IsChangeFault (file_after old (take i changes)) x fault) there one;
+  }

@@ -110,3 +110,15 @@ abbrev pub IsAfter : Stored → List Change → Result Stored RawError → Type 
 IsAfter old changes (Ok new) = AreFine old.files changes (length changes) × (new.files ≡ files_after old.files changes) × (new.enabled ≡ enabled_after old.enabled changes)
 IsAfter old changes (Err (error.Fault fault)) = IsFirstFault old.files changes fault
 IsAfter old changes (Err error.Memory) = ⊤
+
+-- what comes of one change of the files that stand before it
+abbrev pub IsChangeOutcome : (List ℕ → Option StoredFile) → Change → Result (Unit {0}) RawError → Type 0
+IsChangeOutcome before c (Ok done) = IsChangeFine before c
+IsChangeOutcome before c (Err (error.Fault fault)) = IsChangeFault before c fault
+IsChangeOutcome before c (Err error.Memory) = ⊤
+
+-- what comes of all changes of the files
+abbrev pub IsFilesOutcome : List StoredFile → List Change → Result (List StoredFile) RawError → Type 0
+IsFilesOutcome old changes (Ok new) = AreFine old changes (length changes) × (new ≡ files_after old changes)
+IsFilesOutcome old changes (Err (error.Fault fault)) = IsFirstFault old changes fault
+IsFilesOutcome old changes (Err error.Memory) = ⊤

@@ -5,6 +5,7 @@
 mod active;
 mod bundle;
 mod cells;
+mod draft;
 mod edit;
 mod edit_laws;
 #[cfg(test)]

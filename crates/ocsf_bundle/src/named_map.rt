@@ -1,7 +1,7 @@
-ghost use Rattle.std.specs.Prelude.{◌≡◌, ℕ, List, IfOk, map};
+ghost use Rattle.std.specs.Prelude.{◌≡◌, ℕ, List, IfOk, OnOk, Some, None, is_some};
 ghost use Rattle.std.specs.BTreeMap.{get, IsOrdered};
 ghost use Rattle.ocsf_tree.specs.ByName.{IsByName, at_name, text_cmp};
-ghost use Rattle.ocsf_bundle.specs.NamedMap.{values_in};
+ghost use Rattle.ocsf_bundle.specs.NamedMap.{values_in, with_item};
 
 use ocsf_tree::{Named, Row, Text, TryClone};
 use std::alloc::{AllocError, Global};
@@ -35,4 +35,24 @@ pub fn values_in<T: Drop>(
         made.push(item)?;
     }
     Ok(made)
+}
+
+/// Puts the item at that name.
+pub fn put_item<T: Drop>(
+    items: &mut BTreeMap<Text, T>,
+    name: Text,
+    item: T,
+) -> Result<(), AllocError>
+    ensures { OnOk result ((q : List ℕ) → get text_cmp items.new q ≡ with_item name (Some item) items.old q) }
+{
+    items.insert(name, item)?;
+    Ok(())
+}
+
+/// Takes away the item at that name. It tells whether there was one.
+pub fn take_item<T: Drop>(items: &mut BTreeMap<Text, T>, name: &Text) -> bool
+    ensures there { result ≡ is_some (get text_cmp items.old name.now) }
+    ensures rest { (q : List ℕ) → get text_cmp items.new q ≡ with_item name.now None items.old q }
+{
+    items.remove(name).is_some()
 }
