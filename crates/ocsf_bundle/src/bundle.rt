@@ -1,21 +1,27 @@
-ghost use Rattle.std.specs.Prelude.{◌≡◌, [], IfOk, slice_get, length, ◌≤◌, IfSome};
+ghost use Rattle.std.specs.Prelude.{◌≡◌, ℕ, List, [], All, IfOk, slice_get, length, ◌≤◌, IfSome};
 ghost use Rattle.std.specs.Option.{option_copied, option_map};
 ghost use Rattle.ocsf_tree.specs.ByName.{IsByName};
 ghost use Rattle.ocsf_bundle.specs.Stored.{stored_path, AreFilesOrdered};
 ghost use Rattle.ocsf_bundle.specs.Active.{active_files};
 ghost use Rattle.ocsf_bundle.specs.Keys.{active_keys};
+ghost use Rattle.ocsf_bundle.specs.Edits.{IsValidChange};
+ghost use Rattle.ocsf_bundle.specs.After.{IsAfter};
 ghost use Rattle.ocsf_bundle.specs.FilesLook.{looks};
 ghost use Rattle.ocsf_bundle.specs.Looks.{look};
 ghost use Rattle.ocsf_bundle.specs.Shown.{shown, IsShownOrdered};
 ghost use Rattle.ocsf_bundle.specs.declared.cells.Cell.{Cell};
 
+use crate::active::active_files;
 use crate::cells::{Cell, Part};
-use crate::index::Index;
+use crate::draft::{enabled_after, files_after};
+use crate::edit::Edit;
+use crate::index::{Index, index_of};
 use crate::look::found;
 use crate::shows::Shows;
 use crate::stored::StoredFile;
+use ocsf_raw::RawError;
 use ocsf_tree::{Key, Row, Shared, Text};
-use std::alloc::Global;
+use std::alloc::{AllocError, Global};
 use std::marker::Model;
 
 /// The files from which everything is compiled, and the names of the enabled extensions.
@@ -77,6 +83,44 @@ impl Bundle {
         ensures by_name { IsByName (λ name. name) result.now }
     {
         self.enabled.as_slice()
+    }
+
+    /// The bundle of these files and enabled extensions.
+    fn of(
+        alloc: Global,
+        files: Row<Shared<StoredFile>>,
+        enabled: Row<Text>,
+    ) -> Result<Bundle, AllocError>
+        requires by_path { IsByName stored_path files }
+        requires by_name { IsByName (λ (name : List ℕ). name) enabled }
+        requires ordered { AreFilesOrdered files }
+        ensures files { IfOk result (λ made. made.files ≡ files) }
+        ensures enabled { IfOk result (λ made. made.enabled ≡ enabled) }
+    {
+        let active = active_files(alloc, files.as_slice(), enabled.as_slice())?;
+        let index = index_of(alloc, active.as_slice())?;
+        Ok(Bundle {
+            files,
+            enabled,
+            index,
+        })
+    }
+
+    /// The bundle after the edit: at each path stands what the last change of it says, or else what stood
+    /// there, and likewise each extension is enabled or not. A file that no change names is shared, not
+    /// copied. The fault is that of the first change that has one: of a put that of [`shape`], of a
+    /// removal `absent` where no file stands at the path after the changes before it.
+    ///
+    /// [`shape`]: ocsf_raw::shape
+    pub fn after(&self, edit: &Edit) -> Result<Bundle, RawError>
+        requires trees { All IsValidChange edit.now.changes }
+        ensures after { IsAfter self.now edit.now.changes result }
+    {
+        let alloc = self.files.allocator();
+        let changes = edit.changes.as_slice();
+        let files = files_after(alloc, self.files.as_slice(), changes)?;
+        let enabled = enabled_after(alloc, self.enabled.as_slice(), changes)?;
+        Ok(Bundle::of(alloc, files, enabled)?)
     }
 
     /// The key at position `k` of the active full keys in order, each once. It takes no memory.
