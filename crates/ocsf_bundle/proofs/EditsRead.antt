@@ -25,6 +25,7 @@ use Rattle.ocsf_raw.specs.Wanted.{there, kind_count, one_kind_fault, change_faul
 use Rattle.ocsf_raw.specs.Shape.{IsFaultless, is_given, change_needed}
 use Rattle.ocsf_raw.proofs.Faultless.{plain_faultless, item_faultless, list_faultless, each_item, item_each, member_faultless, needed_given, object_faultless, EachField, field_each}
 use Rattle.ocsf_raw.proofs.Parts.{valid_items, valid_member}
+use Rattle.ocsf_raw.proofs.Sorts.{is_text, is_tested, is_list}
 use Rattle.ocsf_bundle.specs.declared.edit.Change.{Change}
 use Rattle.ocsf_bundle.specs.declared.edit.Change.TheVariants as change
 use Rattle.ocsf_bundle.specs.declared.edit.Edit.{Edit}
@@ -47,26 +48,6 @@ text_there n t s e = go (member_at n t) refl e
     go : (o : Option Tree) → member_at n t ≡ o → option_and_then (λ u. text_of (out-Tree u)) o ≡ Some s → (u : Tree) × (member_at n t ≡ Some u) × (out-Tree u ≡ Tree-F.Words s)
     go None at e = cc
     go (Some u) at e = (u, at, words (out-Tree u) e)
-
-is_text : (x : Tree-F Tree Member) → text_fault x ≡ None → (s : List ℕ) × (x ≡ Tree-F.Words s)
-is_text (Tree-F.Words s) e = (s, refl)
-is_text Tree-F.Null e = cc
-is_text (Tree-F.Flag b) e = cc
-is_text (Tree-F.Whole z) e = cc
-is_text (Tree-F.List items) e = cc
-is_text (Tree-F.Members ms) e = cc
-
-is_name_text : (x : Tree-F Tree Member) → tested is_name BadName x ≡ None → (s : List ℕ) × (x ≡ Tree-F.Words s) × (is_name s ≡ true)
-is_name_text (Tree-F.Words s) e = (s, refl, passed (is_name s) e)
-  where
-    passed : (b : Bool) → cond b None (Some BadName) ≡ None → b ≡ true
-    passed true e = refl
-    passed false e = cc
-is_name_text Tree-F.Null e = cc
-is_name_text (Tree-F.Flag b) e = cc
-is_name_text (Tree-F.Whole z) e = cc
-is_name_text (Tree-F.List items) e = cc
-is_name_text (Tree-F.Members ms) e = cc
 
 text_is : (n : List ℕ) (t u : Tree) (s : List ℕ) → member_at n t ≡ Some u → out-Tree u ≡ Tree-F.Words s → text_at n t ≡ Some s
 text_is n t u s at shown = ap (option_and_then (λ x. text_of (out-Tree x))) at ∙ ap text_of shown
@@ -114,7 +95,7 @@ module _ (t : Tree) (clean : IsFaultless (Object object.Change) t) (ms : List Me
 
   name_text : (n : List ℕ) → is_include n ≡ false → member_wanted object.Change n ≡ Some (Plain plain.Name) → (u : Tree) → member_at n t ≡ Some u → (s : List ℕ) × IsNameAt n t s
   name_text n other wanted u at =
-      let words = is_name_text (out-Tree u) (member_clean n u (Plain plain.Name) other at wanted []) in
+      let words = is_tested is_name BadName (out-Tree u) (member_clean n u (Plain plain.Name) other at wanted []) in
       (words.0, (text_is n t u words.0 at words.1, words.2))
 
   body_there : (u : Tree) → member_at (codes "put") t ≡ Some u → (v : Tree) × (member_at (codes "body") t ≡ Some v)
@@ -312,14 +293,6 @@ listed_items (Tree-F.Whole z) items e = cc
 listed_items (Tree-F.Words s) items e = cc
 listed_items (Tree-F.List ts) items e = cc
 listed_items (Tree-F.Members ms) items e = cc
-
-is_list : (x : Tree-F Tree Member) → some_list x ≡ None → (items : List Tree) × (x ≡ Tree-F.List items)
-is_list (Tree-F.List items) e = (items, refl)
-is_list Tree-F.Null e = cc
-is_list (Tree-F.Flag b) e = cc
-is_list (Tree-F.Whole z) e = cc
-is_list (Tree-F.Words s) e = cc
-is_list (Tree-F.Members ms) e = cc
 
 abbrev CleanChange : Tree → Type 0
 CleanChange t = IsFaultless (Object object.Change) t

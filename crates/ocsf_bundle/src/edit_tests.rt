@@ -35,7 +35,12 @@ fn outcome(rt: &HostRuntime, text: &str) -> Result<String, Fail> {
         }
         Err(RawError::Memory) => Ok(String::from_str(alloc, "memory")?),
         Err(RawError::Fault(fault)) => {
-            Ok(format!(in alloc; "{} {}{}", fault.code.as_str(), fault.subject.as_str(), fault.name.as_str())?)
+            Ok(format!(in alloc;
+                "{} {}{}",
+                fault.code.as_str(),
+                fault.subject.as_str(),
+                fault.name.as_str()
+            )?)
         }
     }
 }

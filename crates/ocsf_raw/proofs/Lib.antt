@@ -1,11 +1,17 @@
 pub mod EachOf
+pub mod EntryTables
 pub mod Faultless
 pub mod FilesByName
 pub mod FilterMaps
 pub mod FirstForms
+pub mod Givens
 pub mod LeastParts
 pub mod LeastTrees
 pub mod Leasts
 pub mod MembersByName
 pub mod Parts
 pub mod Refusals
+pub mod SaysEntries
+pub mod SaysFiles
+pub mod SaysLayers
+pub mod Sorts

@@ -10,3 +10,5 @@ pub mod Content
 pub mod FileShape
 pub mod EditShape
 pub mod Ordered
+pub mod Says
+pub mod RecordLaw
