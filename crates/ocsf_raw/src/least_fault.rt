@@ -3,6 +3,7 @@ ghost use Rattle.std.specs.Option.{option_copied};
 ghost use Rattle.ocsf_tree.specs.declared.tree.Tree.{out-Tree};
 ghost use Rattle.ocsf_tree.specs.Lookup.{member_in};
 ghost use Rattle.ocsf_tree.specs.Valid.{IsValid, IsValidList, IsValidMembers};
+ghost use Rattle.ocsf_raw.specs.Members.{members_in};
 ghost use Rattle.ocsf_raw.specs.Wanted.{counts};
 ghost use Rattle.ocsf_raw.specs.Shape.{IsLeast, least_fault, is_given, item_needed, change_needed, names_of_object, names_needed};
 ghost use Rattle.ocsf_raw.specs.Least.{lesser, found_below, fault_of_member, faults_of_items, faults_of_members, faults_missing};
@@ -94,7 +95,7 @@ pub fn least_fault(alloc: Global, wanted: Wanted, tree: &Tree) -> Result<Option<
         Tree::List(items) => least_of_items(alloc, item_wanted(wanted), items.as_slice()),
         Tree::Members(members) => {
             let inside = least_of_members(alloc, wanted, members.as_slice())?;
-            let missing = least_missing(alloc, wanted, members.as_slice())?;
+            let missing = least_missing(alloc, wanted, tree)?;
             Ok(lesser(inside, missing))
         }
     }
@@ -160,21 +161,19 @@ fn least_of_member(
     }
 }
 
-fn member_named<'a>(members: &'a [Member], name: &str) -> Option<&'a Tree>
-    ensures { option_copied result ≡ member_in name.now members.now }
+fn member_named<'a>(tree: &'a Tree, name: &str) -> Option<&'a Tree>
+    requires { IsValid tree.now }
+    ensures { option_copied result ≡ member_in name.now (members_in tree.now) }
 {
-    for member in members {
-        if member.name.as_str() == name {
-            return Some(&member.value);
-        }
-    }
-    None
+    tree.at(name)
 }
 
-fn missing(alloc: Global, members: &[Member], name: &str) -> Result<Option<Found>, AllocError>
-    ensures { IfOk result (λ found. IsLeast (faults_missing (name.now ∷ []) members.now) found) }
+fn missing(alloc: Global, tree: &Tree, name: &str) -> Result<Option<Found>, AllocError>
+    requires { IsValid tree.now }
+    ensures { IfOk result
+        (λ found. IsLeast (faults_missing (name.now ∷ []) (members_in tree.now)) found) }
 {
-    if is_given(member_named(members, name)) {
+    if is_given(member_named(tree, name)) {
         return Ok(None);
     }
     let mut steps = Row::new(alloc);
@@ -185,16 +184,13 @@ fn missing(alloc: Global, members: &[Member], name: &str) -> Result<Option<Found
     }))
 }
 
-fn least_missing(
-    alloc: Global,
-    wanted: Wanted,
-    members: &[Member],
-) -> Result<Option<Found>, AllocError>
-    ensures { IfOk result
-        (λ found. IsLeast (faults_missing (names_needed wanted members.now) members.now) found) }
+fn least_missing(alloc: Global, wanted: Wanted, tree: &Tree) -> Result<Option<Found>, AllocError>
+    requires { IsValid tree.now }
+    ensures { let members = members_in tree.now in
+        IfOk result (λ found. IsLeast (faults_missing (names_needed wanted members) members) found) }
 {
     match wanted {
-        Wanted::Object(object) => missing_of_object(alloc, object, members),
+        Wanted::Object(object) => missing_of_object(alloc, object, tree),
         _ => Ok(None),
     }
 }
@@ -202,46 +198,49 @@ fn least_missing(
 fn missing_of_object(
     alloc: Global,
     wanted: Object,
-    members: &[Member],
+    tree: &Tree,
 ) -> Result<Option<Found>, AllocError>
-    ensures { IfOk result
-        (λ found. IsLeast (faults_missing (names_of_object wanted members.now) members.now) found) }
+    requires { IsValid tree.now }
+    ensures { let members = members_in tree.now in
+        IfOk result (λ found. IsLeast (faults_missing (names_of_object wanted members) members) found) }
 {
     match wanted {
-        Object::VersionFile => missing(alloc, members, "version"),
-        Object::CategoriesFile => missing(alloc, members, "attributes"),
-        Object::Category => missing(alloc, members, "uid"),
-        Object::ItemFile(_, core) => missing_name(alloc, core, members),
-        Object::ProfileFile => missing(alloc, members, "name"),
+        Object::VersionFile => missing(alloc, tree, "version"),
+        Object::CategoriesFile => missing(alloc, tree, "attributes"),
+        Object::Category => missing(alloc, tree, "uid"),
+        Object::ItemFile(_, core) => missing_name(alloc, core, tree),
+        Object::ProfileFile => missing(alloc, tree, "name"),
         Object::ExtensionFile => {
-            let name = missing(alloc, members, "name")?;
-            let uid = missing(alloc, members, "uid")?;
+            let name = missing(alloc, tree, "name")?;
+            let uid = missing(alloc, tree, "uid")?;
             Ok(lesser(name, uid))
         }
-        Object::Change => missing_body(alloc, members),
+        Object::Change => missing_body(alloc, tree),
         _ => Ok(None),
     }
 }
 
 // An item of core has a name, and so has one that extends nothing.
-fn missing_name(alloc: Global, core: bool, members: &[Member]) -> Result<Option<Found>, AllocError>
-    ensures { IfOk result
-        (λ found. IsLeast (faults_missing (item_needed core members.now) members.now) found) }
+fn missing_name(alloc: Global, core: bool, tree: &Tree) -> Result<Option<Found>, AllocError>
+    requires { IsValid tree.now }
+    ensures { let members = members_in tree.now in
+        IfOk result (λ found. IsLeast (faults_missing (item_needed core members) members) found) }
 {
-    if core || !is_given(member_named(members, "extends")) {
-        missing(alloc, members, "name")
+    if core || !is_given(member_named(tree, "extends")) {
+        missing(alloc, tree, "name")
     } else {
         Ok(None)
     }
 }
 
 // What is put has its file beside it, which may be `null`.
-fn missing_body(alloc: Global, members: &[Member]) -> Result<Option<Found>, AllocError>
-    ensures { IfOk result
-        (λ found. IsLeast (faults_missing (change_needed members.now) members.now) found) }
+fn missing_body(alloc: Global, tree: &Tree) -> Result<Option<Found>, AllocError>
+    requires { IsValid tree.now }
+    ensures { let members = members_in tree.now in
+        IfOk result (λ found. IsLeast (faults_missing (change_needed members) members) found) }
 {
-    if member_named(members, "put").is_some() && member_named(members, "body").is_none() {
-        missing(alloc, members, "body")
+    if member_named(tree, "put").is_some() && member_named(tree, "body").is_none() {
+        missing(alloc, tree, "body")
     } else {
         Ok(None)
     }
