@@ -1,5 +1,5 @@
-use crate::{RawError, first_form, has_form, is_path, is_reference, shape};
-use ocsf_tree::{Text, read};
+use crate::{Mark, RawError, RawFile, first_form, has_form, is_path, is_reference, shape};
+use ocsf_tree::{Requirement, Text, read};
 use std::test::Fail;
 
 fn refusal(rt: &HostRuntime, path: &str, text: &[u8]) -> Result<Text, Fail> {
@@ -18,9 +18,10 @@ fn refusal(rt: &HostRuntime, path: &str, text: &[u8]) -> Result<Text, Fail> {
 }
 
 #[test]
-fn finds_each_fault(rt: HostRuntime) -> Result<(), Fail> {
-    let rows: [(&str, &str, &str); 22] = [
+fn finds_faults_of_listed_files(rt: HostRuntime) -> Result<(), Fail> {
+    let rows = [
         ("version.json", "[]", "shape  not_an_object"),
+        ("version.json", "null", "shape  not_an_object"),
         (
             "version.json",
             "{\"version\":null}",
@@ -32,9 +33,111 @@ fn finds_each_fault(rt: HostRuntime) -> Result<(), Fail> {
             "shape /version not_a_text",
         ),
         (
+            "version.json",
+            "{\"other\":{\"version\":5},\"version\":\"1.3.0\"}",
+            "ok",
+        ),
+        (
+            "categories.json",
+            "{\"attributes\":null}",
+            "shape /attributes missing",
+        ),
+        (
+            "categories.json",
+            "{\"attributes\":{\"a\":{\"caption\":\"c\"}}}",
+            "shape /attributes/a/uid missing",
+        ),
+        (
+            "categories.json",
+            "{\"attributes\":{\"a\":{\"caption\":5,\"uid\":1}}}",
+            "shape /attributes/a/caption not_a_text",
+        ),
+        (
             "categories.json",
             "{\"attributes\":{\"a\":{\"uid\":100}}}",
             "shape /attributes/a/uid out_of_range",
+        ),
+        (
+            "categories.json",
+            "{\"attributes\":{\"a\":{\"uid\":-1}}}",
+            "shape /attributes/a/uid out_of_range",
+        ),
+        (
+            "categories.json",
+            "{\"attributes\":{\"a\":5}}",
+            "shape /attributes/a not_an_object",
+        ),
+        (
+            "categories.json",
+            "{\"attributes\":{\"a b\":null,\"c\":{\"uid\":99},\"d\":{\"uid\":0}}}",
+            "ok",
+        ),
+        (
+            "extensions/e/categories.json",
+            "{\"attributes\":{\"a/b\":{\"uid\":\"x\"}}}",
+            "shape /attributes/a~1b bad_name",
+        ),
+        ("extensions/e/extension.json", "{}", "shape /name missing"),
+        (
+            "extensions/e/extension.json",
+            "{\"name\":\"e\"}",
+            "shape /uid missing",
+        ),
+        (
+            "extensions/e/extension.json",
+            "{\"name\":\"e\",\"uid\":0}",
+            "shape /uid out_of_range",
+        ),
+        (
+            "extensions/e/extension.json",
+            "{\"name\":\"e\",\"uid\":1000}",
+            "shape /uid out_of_range",
+        ),
+        (
+            "extensions/e/extension.json",
+            "{\"caption\":[],\"name\":\"e/f\",\"uid\":\"1\",\"version\":5}",
+            "shape /caption not_a_text",
+        ),
+        (
+            "extensions/e/extension.json",
+            "{\"name\":\"e/f\",\"uid\":\"1\",\"version\":5}",
+            "shape /name bad_name",
+        ),
+        (
+            "extensions/e/extension.json",
+            "{\"caption\":null,\"name\":\"e\",\"uid\":999,\"version\":\"1\",\"w\":null,\"x\":[5],\"y\":{\"name\":5},\"z\":true}",
+            "ok",
+        ),
+    ];
+    for (path, text, want) in rows {
+        let found = refusal(&rt, path, text.as_bytes())?;
+        assert_eq!(rt; found.as_str(), want, "at {path}: {text}");
+    }
+    Ok(())
+}
+
+#[test]
+fn finds_faults_of_dictionaries(rt: HostRuntime) -> Result<(), Fail> {
+    let rows = [
+        (
+            "dictionary.json",
+            "{\"attributes\":[]}",
+            "shape /attributes not_an_object",
+        ),
+        (
+            "dictionary.json",
+            "{\"attributes\":{\"a b\":{\"caption\":5}}}",
+            "shape /attributes/a b bad_name",
+        ),
+        (
+            "dictionary.json",
+            "{\"attributes\":{\"a\":{\"caption\":5}}}",
+            "shape /attributes/a/caption not_a_text",
+        ),
+        (
+            "dictionary.json",
+            "{\"attributes\":{\"a\":{\"type\":\"e/t/u\"}}}",
+            "shape /attributes/a/type bad_name",
         ),
         (
             "dictionary.json",
@@ -43,7 +146,47 @@ fn finds_each_fault(rt: HostRuntime) -> Result<(), Fail> {
         ),
         (
             "dictionary.json",
-            "{\"types\":{\"attributes\":{\"t\":{\"range\":[null]}}}}",
+            "{\"attributes\":{\"a\":{\"sibling\":\"e/s\"}}}",
+            "shape /attributes/a/sibling bad_name",
+        ),
+        (
+            "dictionary.json",
+            "{\"attributes\":{\"a\":{\"enum\":[\"x\"]}}}",
+            "shape /attributes/a/enum not_an_object",
+        ),
+        (
+            "dictionary.json",
+            "{\"attributes\":{\"a\":{\"enum\":{\"1\":\"One\"}}}}",
+            "shape /attributes/a/enum/1 not_an_object",
+        ),
+        (
+            "dictionary.json",
+            "{\"attributes\":{\"a\":{\"enum\":{\"1\":{\"description\":5}}}}}",
+            "shape /attributes/a/enum/1/description not_a_text",
+        ),
+        (
+            "dictionary.json",
+            "{\"attributes\":{\"a b\":null,\"c\":{\"enum\":{\"\":{},\"$include\":5,\"x\":null},\"is_array\":false,\"sibling\":\"s\",\"type\":\"e/t\"}},\"types\":null}",
+            "ok",
+        ),
+        (
+            "dictionary.json",
+            "{\"types\":{\"attributes\":{\"t\":{\"type\":\"e/t\"}}}}",
+            "shape /types/attributes/t/type bad_name",
+        ),
+        (
+            "dictionary.json",
+            "{\"types\":{\"attributes\":{\"t\":{\"regex\":5}}}}",
+            "shape /types/attributes/t/regex not_a_text",
+        ),
+        (
+            "dictionary.json",
+            "{\"types\":{\"attributes\":{\"t\":{\"range\":[1]}}}}",
+            "shape /types/attributes/t/range not_two",
+        ),
+        (
+            "dictionary.json",
+            "{\"types\":{\"attributes\":{\"t\":{\"range\":[1,2,3]}}}}",
             "shape /types/attributes/t/range not_two",
         ),
         (
@@ -53,18 +196,156 @@ fn finds_each_fault(rt: HostRuntime) -> Result<(), Fail> {
         ),
         (
             "dictionary.json",
+            "{\"types\":{\"attributes\":{\"t\":{\"range\":\"1..2\"}}}}",
+            "shape /types/attributes/t/range not_a_list",
+        ),
+        (
+            "dictionary.json",
+            "{\"types\":{\"attributes\":{\"t\":{\"max_len\":9223372036854775808}}}}",
+            "shape /types/attributes/t/max_len out_of_range",
+        ),
+        (
+            "dictionary.json",
+            "{\"types\":{\"attributes\":{\"t\":{\"max_len\":\"9\"}}}}",
+            "shape /types/attributes/t/max_len not_a_whole",
+        ),
+        (
+            "dictionary.json",
             "{\"types\":{\"attributes\":{\"t\":{\"values\":{}}}}}",
             "shape /types/attributes/t/values not_a_list",
         ),
+        (
+            "extensions/e/dictionary.json",
+            "{\"types\":{\"attributes\":{\"t\":{\"max_len\":9223372036854775807,\"range\":[-1,2],\"regex\":\"r\",\"type\":\"p\",\"values\":[null,{}]},\"t u\":null}}}",
+            "ok",
+        ),
+        (
+            "extensions/e/dictionary.json",
+            "{\"types\":{\"attributes\":{\"t u\":{}}}}",
+            "shape /types/attributes/t u bad_name",
+        ),
+    ];
+    for (path, text, want) in rows {
+        let found = refusal(&rt, path, text.as_bytes())?;
+        assert_eq!(rt; found.as_str(), want, "at {path}: {text}");
+    }
+    Ok(())
+}
+
+#[test]
+fn finds_faults_of_items(rt: HostRuntime) -> Result<(), Fail> {
+    let rows = [
         (
             "objects/a.json",
             "{\"extends\":\"b\"}",
             "shape /name missing",
         ),
         (
+            "extensions/e/objects/a.json",
+            "{\"caption\":\"c\"}",
+            "shape /name missing",
+        ),
+        ("extensions/e/objects/a.json", "{\"extends\":\"b\"}", "ok"),
+        (
+            "objects/a.json",
+            "{\"caption\":5,\"name\":\"a b\"}",
+            "shape /caption not_a_text",
+        ),
+        (
+            "objects/a.json",
+            "{\"caption\":\"c\",\"name\":\"a b\"}",
+            "shape /name bad_name",
+        ),
+        (
+            "objects/a.json",
+            "{\"category\":\"a/b/c\",\"name\":\"a\"}",
+            "shape /category bad_name",
+        ),
+        (
+            "objects/a.json",
+            "{\"extends\":5,\"name\":\"a\"}",
+            "shape /extends not_a_text",
+        ),
+        (
+            "objects/a.json",
+            "{\"name\":\"a\",\"profiles\":\"p\"}",
+            "shape /profiles not_a_list",
+        ),
+        (
+            "objects/a.json",
+            "{\"name\":\"a\",\"profiles\":[\"p\",5]}",
+            "shape /profiles/1 not_a_text",
+        ),
+        (
+            "objects/a.json",
+            "{\"constraints\":[],\"name\":\"a\"}",
+            "shape /constraints not_an_object",
+        ),
+        (
+            "objects/a.json",
+            "{\"constraints\":{\"at_least_one\":[],\"just_one\":[\"x\",\"a/b\"]},\"name\":\"a\"}",
+            "shape /constraints/just_one/1 bad_name",
+        ),
+        (
+            "objects/a.json",
+            "{\"constraints\":{\"at_least_one\":[\"x\"],\"just_one\":[]},\"extends\":\"e/b\",\"name\":\"a\",\"profiles\":[\"e/p\"],\"uid\":\"x\"}",
+            "ok",
+        ),
+        (
+            "events/a.json",
+            "{\"name\":\"a\",\"uid\":\"x\"}",
+            "shape /uid not_a_whole",
+        ),
+        (
+            "events/a.json",
+            "{\"name\":\"a\",\"uid\":1000}",
+            "shape /uid out_of_range",
+        ),
+        (
+            "events/x/a.json",
+            "{\"category\":\"e/c\",\"name\":\"a\",\"uid\":999}",
+            "ok",
+        ),
+        (
+            "events/a.json",
+            "{\"attributes\":{\"y\":5},\"name\":\"a\",\"uid\":5000}",
+            "shape /attributes/y not_an_object",
+        ),
+    ];
+    for (path, text, want) in rows {
+        let found = refusal(&rt, path, text.as_bytes())?;
+        assert_eq!(rt; found.as_str(), want, "at {path}: {text}");
+    }
+    Ok(())
+}
+
+#[test]
+fn finds_faults_of_entries(rt: HostRuntime) -> Result<(), Fail> {
+    let rows = [
+        (
             "objects/a.json",
             "{\"attributes\":{\"a b\":null},\"name\":\"a\"}",
             "shape /attributes/a b bad_name",
+        ),
+        (
+            "objects/a.json",
+            "{\"attributes\":{\"x\":{\"requirement\":\"must\"}},\"name\":\"a\"}",
+            "shape /attributes/x/requirement not_a_requirement",
+        ),
+        (
+            "objects/a.json",
+            "{\"attributes\":{\"x\":{\"requirement\":5}},\"name\":\"a\"}",
+            "shape /attributes/x/requirement not_a_text",
+        ),
+        (
+            "objects/a.json",
+            "{\"attributes\":{\"x\":{\"profile\":\"a/b/c\"}},\"name\":\"a\"}",
+            "shape /attributes/x/profile bad_name",
+        ),
+        (
+            "objects/a.json",
+            "{\"attributes\":{\"x\":{\"group\":[]}},\"name\":\"a\"}",
+            "shape /attributes/x/group not_a_text",
         ),
         (
             "objects/a.json",
@@ -73,133 +354,191 @@ fn finds_each_fault(rt: HostRuntime) -> Result<(), Fail> {
         ),
         (
             "objects/a.json",
+            "{\"attributes\":{\"$include\":\"version.js\"},\"name\":\"a\"}",
+            "shape /attributes/$include bad_path",
+        ),
+        (
+            "objects/a.json",
+            "{\"attributes\":{\"$include\":[\"includes/i.json\",5]},\"name\":\"a\"}",
+            "shape /attributes/$include/1 not_a_text",
+        ),
+        (
+            "objects/a.json",
             "{\"attributes\":{\"$include\":[\"extension.json\"]},\"name\":\"a\"}",
             "shape /attributes/$include/0 bad_path",
         ),
         (
             "objects/a.json",
-            "{\"attributes\":{\"x\":{\"requirement\":\"must\"}},\"name\":\"a\"}",
-            "shape /attributes/x/requirement not_a_requirement",
+            "{\"attributes\":{\"$include\":\"extensions/e/includes/i.json\"},\"name\":\"a\"}",
+            "shape /attributes/$include bad_path",
         ),
         (
-            "events/a.json",
-            "{\"attributes\":{\"y\":5},\"name\":\"a\",\"uid\":5000}",
-            "shape /attributes/y not_an_object",
+            "objects/a.json",
+            "{\"attributes\":{\"$include\":\"includes/i.json\"},\"name\":\"a\"}",
+            "ok",
         ),
         (
-            "events/a.json",
-            "{\"name\":\"a\",\"uid\":\"x\"}",
-            "shape /uid not_a_whole",
+            "objects/a.json",
+            "{\"attributes\":{\"$include\":[\"profiles/p.json\",\"events/x.json\"]},\"name\":\"a\"}",
+            "ok",
+        ),
+        (
+            "objects/a.json",
+            "{\"attributes\":{\"$include\":null,\"x\":null,\"y\":{\"profile\":null,\"z\":5}},\"name\":\"a\"}",
+            "ok",
         ),
         (
             "profiles/p.json",
             "{\"attributes\":{\"$include\":\"includes/i.json\"},\"name\":\"p\"}",
             "shape /attributes/$include nested_include",
         ),
-        ("extensions/e/extension.json", "{}", "shape /name missing"),
         (
-            "extensions/e/extension.json",
-            "{\"name\":\"e\",\"uid\":0}",
-            "shape /uid out_of_range",
-        ),
-        ("extension.json", "{}", "path_unknown "),
-        ("objects/.json", "{}", "path_unknown "),
-        ("extensions/objects/a.json", "{}", "path_unknown "),
-        ("events.json", "{}", "path_unknown "),
-    ];
-    for (path, text, want) in rows {
-        assert_eq!(rt;
-            refusal(&rt, path, text.as_bytes())?.as_str(),
-            want,
-            "at {path}"
-        );
-    }
-    Ok(())
-}
-
-#[test]
-fn takes_each_form(rt: HostRuntime) -> Result<(), Fail> {
-    let rows: [(&str, &str); 15] = [
-        ("version.json", "{\"version\":\"1.3.0\",\"other\":[5]}"),
-        (
-            "categories.json",
-            "{\"attributes\":{\"a b\":null,\"c\":{\"uid\":99}}}",
-        ),
-        ("extensions/e/categories.json", "{\"attributes\":{}}"),
-        (
-            "dictionary.json",
-            "{\"attributes\":{\"a b\":null},\"types\":null}",
-        ),
-        (
-            "dictionary.json",
-            "{\"attributes\":{\"a\":{\"enum\":{\"\":{},\"$include\":5,\"x\":null}}}}",
-        ),
-        ("extensions/e/dictionary.json", "{}"),
-        (
-            "events/x/a.json",
-            "{\"category\":\"e/c\",\"name\":\"a\",\"uid\":999}",
-        ),
-        (
-            "objects/a.json",
-            "{\"attributes\":{\"$include\":null,\"x\":null,\"y\":{\"profile\":null}},\"name\":\"a\",\"uid\":\"x\"}",
-        ),
-        ("extensions/e/objects/a.json", "{\"extends\":\"b\"}"),
-        (
-            "extensions/e/events/x/a.json",
-            "{\"extends\":\"b\",\"uid\":1}",
+            "profiles/p.json",
+            "{\"annotations\":{\"group\":5},\"name\":\"p\"}",
+            "shape /annotations/group not_a_text",
         ),
         (
             "profiles/p.json",
-            "{\"attributes\":{\"$include\":null},\"name\":\"p\"}",
-        ),
-        ("extensions/e/profiles/p.json", "{\"name\":\"p\"}"),
-        ("includes/i.json", "{}"),
-        (
-            "extensions/e/includes/x/i.json",
-            "{\"attributes\":{\"a\":{}}}",
+            "{\"annotations\":{\"requirement\":\"Required\"},\"name\":\"p\"}",
+            "shape /annotations/requirement not_a_requirement",
         ),
         (
-            "extensions/e/extension.json",
-            "{\"name\":\"e\",\"uid\":999}",
+            "profiles/p.json",
+            "{\"description\":5}",
+            "shape /description not_a_text",
+        ),
+        (
+            "profiles/p.json",
+            "{\"annotations\":null}",
+            "shape /name missing",
+        ),
+        (
+            "profiles/p.json",
+            "{\"annotations\":{\"requirement\":\"optional\"},\"attributes\":{\"$include\":null,\"x\":{}},\"name\":\"p\"}",
+            "ok",
+        ),
+        (
+            "includes/i.json",
+            "{\"attributes\":{\"$include\":[]}}",
+            "shape /attributes/$include nested_include",
+        ),
+        (
+            "includes/i.json",
+            "{\"attributes\":{\"x\":{\"type\":5}}}",
+            "shape /attributes/x/type not_a_text",
+        ),
+        (
+            "includes/i.json",
+            "{\"attributes\":{\"x\":null},\"name\":5}",
+            "ok",
         ),
     ];
-    for (path, text) in rows {
-        assert_eq!(rt;
-            refusal(&rt, path, text.as_bytes())?.as_str(),
-            "ok",
-            "at {path}"
-        );
+    for (path, text, want) in rows {
+        let found = refusal(&rt, path, text.as_bytes())?;
+        assert_eq!(rt; found.as_str(), want, "at {path}: {text}");
     }
     Ok(())
 }
 
-// The refusal of a file with a text of `len` letters between these bytes.
-fn filled(rt: &HostRuntime, path: &str, start: &str, len: usize, end: &str) -> Result<Text, Fail> {
-    let mut text = Vec::new(rt.alloc());
-    text.extend_from_slice(start.as_bytes())?;
-    for _ in 0..len {
-        text.push(b'a')?;
+#[test]
+fn tells_each_form(rt: HostRuntime) -> Result<(), Fail> {
+    let rows = [
+        ("version.json", true),
+        ("categories.json", true),
+        ("dictionary.json", true),
+        ("events/a.json", true),
+        ("events/x/y/a.json", true),
+        ("objects/a.json", true),
+        ("profiles/p.json", true),
+        ("includes/x/i.json", true),
+        ("extensions/e/categories.json", true),
+        ("extensions/e/dictionary.json", true),
+        ("extensions/e/events/a.json", true),
+        ("extensions/e/objects/x/a.json", true),
+        ("extensions/e/profiles/p.json", true),
+        ("extensions/e/includes/i.json", true),
+        ("extensions/e/extension.json", true),
+        ("objects/1/2/3/4/5/6/a.json", true),
+        ("objects/1/2/3/4/5/6/7/a.json", false),
+        ("", false),
+        ("extension.json", false),
+        ("extensions/e/version.json", false),
+        ("extensions/extension.json", false),
+        ("extensions/e/f/extension.json", false),
+        ("extensions/objects/a.json", false),
+        ("events.json", false),
+        ("events", false),
+        ("objects/.json", false),
+        ("objects/.a.json", false),
+        ("objects/.x/a.json", false),
+        ("objects//a.json", false),
+        ("objects/a.jsn", false),
+        ("objects/a:b.json", false),
+        ("Objects/a.json", false),
+        ("other/a.json", false),
+    ];
+    for (path, want) in rows {
+        assert_eq!(rt; has_form(path), want, "at {path}");
     }
-    text.extend_from_slice(end.as_bytes())?;
-    refusal(rt, path, text.as_slice())
+    Ok(())
+}
+
+// The text with `len` letters between these two.
+fn filled(rt: &HostRuntime, start: &str, len: usize, end: &str) -> Result<String, Fail> {
+    let mut text = String::from_str(rt.alloc(), start)?;
+    for _ in 0..len {
+        text.push('a')?;
+    }
+    text.push_str(end)?;
+    Ok(text)
 }
 
 #[test]
-fn bounds_lengths(rt: HostRuntime) -> Result<(), Fail> {
+fn bounds_texts(rt: HostRuntime) -> Result<(), Fail> {
     let version = ("version.json", "{\"version\":\"", "\"}");
     let pattern = (
         "dictionary.json",
         "{\"types\":{\"attributes\":{\"t\":{\"regex\":\"",
         "\"}}}}",
     );
-    let rows: [((&str, &str, &str), usize, &str); 4] = [
+    let name = ("objects/a.json", "{\"name\":\"", "\"}");
+    let reference = ("objects/a.json", "{\"category\":\"e/", "\",\"name\":\"a\"}");
+    let rows = [
         (version, 2097152 - 14, "ok"),
         (version, 2097153 - 14, "limit file"),
         (pattern, 8192, "ok"),
         (pattern, 8193, "shape /types/attributes/t/regex too_long"),
+        (name, 100, "ok"),
+        (name, 101, "shape /name bad_name"),
+        (name, 0, "shape /name bad_name"),
+        (reference, 100, "ok"),
+        (reference, 101, "shape /category bad_name"),
     ];
     for ((path, start, end), len, want) in rows {
-        assert_eq!(rt; filled(&rt, path, start, len, end)?.as_str(), want);
+        let text = filled(&rt, start, len, end)?;
+        assert_eq!(rt;
+            refusal(&rt, path, text.as_bytes())?.as_str(),
+            want,
+            "{len} at {path}"
+        );
+    }
+    Ok(())
+}
+
+#[test]
+fn bounds_paths(rt: HostRuntime) -> Result<(), Fail> {
+    // 110 bytes
+    let long =
+        "objects/aaaaaaaaaaaaaaaaaaaaaaaaaaaaaaaaaaaaaaaaaaaaaaaaaa/aaaaaaaaaaaaaaaaaaaaaaaaaaaaaaaaaaaaaaaaaaaaaaaaaa/";
+    let rows = [
+        ("objects/", 95, true),
+        ("objects/", 96, false),
+        (long, 85, true),
+        (long, 86, false),
+    ];
+    for (start, len, want) in rows {
+        let path = filled(&rt, start, len, ".json")?;
+        assert_eq!(rt; has_form(path.as_str()), want, "{len} after {start}");
     }
     Ok(())
 }
@@ -250,54 +589,56 @@ fn reads_the_first_form(rt: HostRuntime) -> Result<(), Fail> {
     Ok(())
 }
 
-#[test]
-fn reads_each_member(rt: HostRuntime) -> Result<(), Fail> {
-    let alloc = rt.alloc();
-    let rows: [(&str, &str, &str); 8] = [
-        (
-            "version.json",
-            "{\"version\":\"1\"}",
-            "Version(Text { inner: \"1\" })",
-        ),
-        (
-            "categories.json",
-            "{\"attributes\":{\"a\":null,\"b\":{\"caption\":\"c\",\"description\":\"d\",\"uid\":7}}}",
-            "Categories(Row { items: [CategoryEntry { name: Text { inner: \"b\" }, caption: Some(Text { inner: \"c\" }), description: Some(Text { inner: \"d\" }), uid: 7 }] })",
-        ),
-        (
-            "dictionary.json",
-            "{\"attributes\":{\"a\":{\"caption\":\"c\",\"description\":\"d\",\"enum\":{\"1\":{\"caption\":\"f\",\"description\":\"e\"}},\"is_array\":true,\"sibling\":\"s\",\"type\":\"t\"},\"b\":null}}",
-            "Dictionary(DictFile { attributes: Row { items: [DictEntry { name: Text { inner: \"a\" }, caption: Some(Text { inner: \"c\" }), description: Some(Text { inner: \"d\" }), type_name: Some(Text { inner: \"t\" }), is_array: Some(true), members: Row { items: [EnumMember { key: Text { inner: \"1\" }, caption: Text { inner: \"f\" }, description: Some(Text { inner: \"e\" }) }] }, sibling: Some(Text { inner: \"s\" }) }] }, types: Row { items: [] } })",
-        ),
-        (
-            "dictionary.json",
-            "{\"types\":{\"attributes\":{\"t\":{\"caption\":\"c\",\"description\":\"d\",\"max_len\":9,\"range\":[-1,2],\"regex\":\"r\",\"type\":\"p\",\"values\":[1,null]}}}}",
-            "Dictionary(DictFile { attributes: Row { items: [] }, types: Row { items: [TypeEntry { name: Text { inner: \"t\" }, caption: Some(Text { inner: \"c\" }), description: Some(Text { inner: \"d\" }), parent: Some(Text { inner: \"p\" }), pattern: Some(Text { inner: \"r\" }), range: Some(Span { low: -1, high: 2 }), max_len: Some(9), values: Some(Row { items: [Whole(1), Null] }) }] } })",
-        ),
-        (
-            "events/a.json",
-            "{\"attributes\":{\"$include\":\"includes/i.json\"},\"caption\":\"c\",\"category\":\"k\",\"constraints\":{\"at_least_one\":[\"x\"],\"just_one\":[]},\"description\":\"d\",\"extends\":\"b\",\"name\":\"a\",\"profiles\":[\"p\"],\"uid\":5}",
-            "Item(ItemFile { side: Class, name: Some(Text { inner: \"a\" }), caption: Some(Text { inner: \"c\" }), description: Some(Text { inner: \"d\" }), parent: Some(Text { inner: \"b\" }), category: Some(Text { inner: \"k\" }), uid: Some(5), profiles: Row { items: [Text { inner: \"p\" }] }, includes: Row { items: [Text { inner: \"includes/i.json\" }] }, attributes: Row { items: [] }, at_least_one: Some(Row { items: [Text { inner: \"x\" }] }), just_one: Some(Row { items: [] }) })",
-        ),
-        (
-            "profiles/p.json",
-            "{\"annotations\":{\"group\":\"g\",\"requirement\":\"recommended\"},\"attributes\":{\"x\":null},\"caption\":\"c\",\"description\":\"d\",\"name\":\"p\"}",
-            "Profile(ProfileFile { name: Text { inner: \"p\" }, caption: Some(Text { inner: \"c\" }), description: Some(Text { inner: \"d\" }), group: Some(Text { inner: \"g\" }), requirement: Some(Recommended), attributes: Row { items: [RawAttr { name: Text { inner: \"x\" }, removed: true, caption: None, description: None, type_name: None, is_array: None, members: Row { items: [] }, sibling: None, requirement: None, mark: Unsaid, group: None }] } })",
-        ),
-        (
-            "includes/i.json",
-            "{\"attributes\":{\"y\":{\"caption\":\"c\",\"description\":\"d\",\"enum\":{\"$include\":1,\"2\":{},\"3\":null},\"group\":\"g\",\"is_array\":false,\"profile\":null,\"requirement\":\"optional\",\"sibling\":\"s\",\"type\":\"e/t\"}}}",
-            "Include(Row { items: [RawAttr { name: Text { inner: \"y\" }, removed: false, caption: Some(Text { inner: \"c\" }), description: Some(Text { inner: \"d\" }), type_name: Some(Text { inner: \"e/t\" }), is_array: Some(false), members: Row { items: [EnumMember { key: Text { inner: \"2\" }, caption: Text { inner: \"2\" }, description: None }] }, sibling: Some(Text { inner: \"s\" }), requirement: Some(Optional), mark: Cleared, group: Some(Text { inner: \"g\" }) }] })",
-        ),
-        (
-            "extensions/e/extension.json",
-            "{\"caption\":\"c\",\"name\":\"e\",\"uid\":9,\"version\":\"1\"}",
-            "Extension(ExtFile { name: Text { inner: \"e\" }, uid: 9, caption: Some(Text { inner: \"c\" }), version: Some(Text { inner: \"1\" }) })",
-        ),
-    ];
-    for (path, text, want) in rows {
-        let file = shape(alloc, path, &read(alloc, text.as_bytes())?)?;
-        assert_eq!(rt; format!(in alloc; "{file:?}")?.as_str(), want, "at {path}");
+fn says(found: &Option<Text>, want: &str) -> bool {
+    match found {
+        Some(text) => text.as_str() == want,
+        None => false,
     }
+}
+
+#[test]
+fn reads_items(rt: HostRuntime) -> Result<(), Fail> {
+    let alloc = rt.alloc();
+    let text =
+        b"{\"attributes\":{\"$include\":\"includes/i.json\",\"x\":null},\"caption\":\"c\",\"category\":\"k\",\"constraints\":{\"just_one\":[]},\"description\":\"d\",\"extends\":\"b\",\"name\":\"a\",\"profiles\":[\"p\"],\"uid\":5}";
+    let RawFile::Item(file) = shape(alloc, "events/a.json", &read(alloc, text)?)? else {
+        return Err("no item".into());
+    };
+    assert!(rt; says(&file.name, "a") && says(&file.caption, "c"));
+    assert!(rt; says(&file.description, "d") && says(&file.parent, "b"));
+    assert!(rt; says(&file.category, "k"));
+    assert_eq!(rt; file.uid, Some(5));
+    assert_eq!(rt; file.profiles.len(), 1);
+    assert_eq!(rt; file.includes.len(), 1);
+    assert!(rt; file.at_least_one.is_none() && file.just_one.is_some());
+    let [entry] = file.attributes.as_slice() else {
+        return Err("no entry".into());
+    };
+    assert!(rt; entry.removed && entry.name.as_str() == "x");
+    Ok(())
+}
+
+#[test]
+fn reads_entries(rt: HostRuntime) -> Result<(), Fail> {
+    let alloc = rt.alloc();
+    let text =
+        b"{\"attributes\":{\"y\":{\"caption\":\"c\",\"description\":\"d\",\"enum\":{\"$include\":1,\"2\":{},\"3\":null},\"group\":\"g\",\"is_array\":false,\"profile\":null,\"requirement\":\"optional\",\"sibling\":\"s\",\"type\":\"e/t\"}}}";
+    let RawFile::Include(entries) = shape(alloc, "includes/i.json", &read(alloc, text)?)? else {
+        return Err("no include file".into());
+    };
+    let [entry] = entries.as_slice() else {
+        return Err("no entry".into());
+    };
+    assert!(rt; !entry.removed && entry.name.as_str() == "y");
+    assert!(rt; says(&entry.caption, "c") && says(&entry.description, "d"));
+    assert!(rt; says(&entry.type_name, "e/t") && says(&entry.sibling, "s"));
+    assert!(rt; says(&entry.group, "g"));
+    assert_eq!(rt; entry.is_array, Some(false));
+    assert_eq!(rt; entry.requirement, Some(Requirement::Optional));
+    assert!(rt; matches!(&entry.mark, Mark::Cleared));
+    let [member] = entry.members.as_slice() else {
+        return Err("no member".into());
+    };
+    assert!(rt; member.key.as_str() == "2" && member.caption.as_str() == "2");
     Ok(())
 }
