@@ -1,5 +1,5 @@
 -- A type turns in a cycle exactly where none of the first 33 names on its way is an end.
-use Rattle.std.proofs.Common.{◌≡◌, ℕ, suc, zero, ◌-◌, ◌<◌, ◌≤◌, List, Bool, true, false, ◌||◌, not, if◌then◌else◌, is_some, Option, Some, None, Result, Ok, Err, refl, sym, ap, ◌∙◌, arith}
+use Rattle.std.proofs.Common.{◌≡◌, ℕ, suc, zero, ◌-◌, ◌≤◌, List, true, false, ◌||◌, not, if◌then◌else◌, is_some, Option, Some, None, Result, Ok, Err, refl, sym, ap, ◌∙◌, arith}
 use Rattle.std.proofs.lemmas.Bool.{false≢true}
 use Rattle.ocsf_raw.specs.declared.dictionary.TypeEntry.{TypeEntry}
 use Rattle.ocsf_schema.specs.declared.records.Base.{Base}

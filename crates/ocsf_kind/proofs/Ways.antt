@@ -1,5 +1,5 @@
 -- The way that is left, and the limits met so far.
-use Rattle.std.proofs.Common.{◌≡◌, ℕ, suc, zero, ◌-◌, ◌<◌, List, [], ◌∷◌, ◌++◌, Bool, true, false, ◌||◌, not, if◌then◌else◌, is_some, Option, Some, None, Ok, Err, unwrap_or, refl, sym, ap, ◌∙◌, append_assoc, arith}
+use Rattle.std.proofs.Common.{◌≡◌, ℕ, suc, zero, ◌-◌, ◌<◌, List, [], ◌∷◌, ◌++◌, true, false, ◌||◌, not, if◌then◌else◌, is_some, Option, Some, None, Ok, Err, unwrap_or, refl, sym, ap, ◌∙◌, append_assoc, arith}
 use Rattle.std.specs.Option.{option_map, option_and_then}
 use Rattle.std.specs.List.{cons_option}
 use Rattle.ocsf_raw.specs.declared.dictionary.TypeEntry.{TypeEntry}
@@ -7,7 +7,7 @@ use Rattle.ocsf_schema.specs.declared.records.Base.{Base}
 use Rattle.ocsf_schema.specs.declared.records.Kind.{Kind}
 use Rattle.ocsf_schema.specs.declared.records.Limit.{Limit}
 use Rattle.ocsf_kind.specs.declared.kinds.KindError.TheVariants as error
-use Rattle.ocsf_kind.specs.Kinds.{base_of, listed, parent_of, is_end, way, last_name, limit_of, limits_of, kind_at, kind_along, kind_of}
+use Rattle.ocsf_kind.specs.Kinds.{base_of, listed, parent_of, is_end, way, last_name, limit_of, limits_of, kind_at, kind_of}
 
 -- a way that ends where it begins
 pub way-end : (moves : ℕ) (types : List TypeEntry) (name : List ℕ) → is_end types name ≡ true → way moves types name ≡ name ∷ []

@@ -1,5 +1,5 @@
 -- One layer more.
-use Rattle.std.proofs.Common.{◌≡◌, ℕ, ◌<◌, zero, suc, length, List, [], ◌∷◌, ◌++◌, reverse, Bool, true, false, cond, Option, Some, None, unwrap_or, is_some, if◌then◌else◌, refl, sym, ◌∙◌, ap, subst, arith}
+use Rattle.std.proofs.Common.{◌≡◌, ℕ, zero, suc, List, [], ◌∷◌, ◌++◌, reverse, Bool, true, false, cond, Option, Some, None, unwrap_or, is_some, if◌then◌else◌, refl, sym, ◌∙◌, ap, subst, arith}
 use Rattle.std.specs.Prelude.{All, flat_map}
 use Rattle.std.specs.List.{cons_option, filter_map}
 use Rattle.std.specs.Option.{option_or, option_map, option_map_or}
@@ -7,15 +7,15 @@ use Rattle.std.specs.Ordering.{is_eq}
 use Rattle.std.proofs.lemmas.List.Elements.{filter_map-append}
 use Rattle.std.proofs.lemmas.List.{reverse-append}
 use Rattle.ocsf_tree.specs.declared.attribute.EnumMember.{EnumMember}
-use Rattle.ocsf_tree.specs.ByName.{text_cmp, at_name, IsByName}
+use Rattle.ocsf_tree.specs.ByName.{text_cmp, at_name}
 use Rattle.ocsf_tree.proofs.FirstOfEach.{same_lists, name-at_name}
 use Rattle.ocsf_raw.specs.declared.attribute.RawAttr.{RawAttr}
 use Rattle.ocsf_raw.specs.Ordered.{IsByKey, AreEntriesOrdered}
 use Rattle.ocsf_merge.specs.declared.spoken.Spoken.{Spoken}
 use Rattle.ocsf_merge.specs.Layers.{Layer, GivenMark, no_mark, given, entry_said, entry_of, entries_for}
-use Rattle.ocsf_merge.specs.Table.{until_removal, counting, first_given, type_said, is_said, mark_said, members_said, spoken_by, present, spoken, table_of}
+use Rattle.ocsf_merge.specs.Table.{until_removal, counting, first_given, type_said, is_said, mark_said, spoken_by, present, spoken, table_of}
 use Rattle.ocsf_merge.specs.Fold.{over, nothing, after_entry, after_layer}
-use Rattle.ocsf_merge.proofs.MergedLists.{Joins, merged-joins, joined, merged-first_of_each}
+use Rattle.ocsf_merge.proofs.MergedLists.{merged-joins, joined, merged-first_of_each}
 use Rattle.ocsf_merge.proofs.TablesByName.{entry_name, row_name, IsByName-table_of, at_name-table_of}
 
 record MarkIs (b : Bool) (g : GivenMark) (old : Option GivenMark) : Type 0 where

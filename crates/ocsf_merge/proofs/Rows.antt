@@ -1,5 +1,5 @@
 -- A row after an entry, part by part as the code makes it.
-use Rattle.std.proofs.Common.{◌≡◌, ℕ, List, [], Bool, true, false, Option, Some, None, if◌then◌else◌, is_some, refl}
+use Rattle.std.proofs.Common.{◌≡◌, ℕ, List, [], Bool, false, Option, Some, None, if◌then◌else◌, is_some, refl}
 use Rattle.std.specs.Option.{option_or}
 use Rattle.std.specs.Borrow.{Bor}
 use Rattle.ocsf_raw.specs.declared.attribute.RawAttr.{RawAttr}
@@ -9,7 +9,7 @@ use Rattle.ocsf_raw.specs.declared.files.ProfileFile.{ProfileFile}
 use Rattle.ocsf_merge.specs.declared.spoken.Spoken.{Spoken}
 use Rattle.ocsf_merge.specs.Layers.{Layer, layer_of, given, given_mark}
 use Rattle.ocsf_merge.specs.Table.{is_said}
-use Rattle.ocsf_merge.specs.Fold.{over, merged_members, row_of, mark_after, type_from_after, group_after, requirement_after}
+use Rattle.ocsf_merge.specs.Fold.{over, merged_members, row_of, mark_after, group_after, requirement_after}
 
 record MarkParts (layer : Layer) (from key : List ℕ) (is_profile : Bool) (m : Mark) (old : Spoken) : Type 0 where
   mark : (if is_said (given_mark layer m).mark then (given_mark layer m).mark else old.attr.mark) ≡ (mark_after from is_profile key m old).mark

@@ -1,5 +1,5 @@
 -- The rows of a table stand by name, and what it has at a name.
-use Rattle.std.proofs.Common.{◌≡◌, ℕ, List, [], ◌∷◌, ◌++◌, map, reverse, Bool, true, false, cond, Option, Some, None, unwrap_or, refl, sym, ◌∙◌, ap, subst}
+use Rattle.std.proofs.Common.{◌≡◌, ℕ, List, [], ◌∷◌, map, reverse, true, false, cond, Option, Some, None, unwrap_or, refl, sym, ◌∙◌, ap, subst}
 use Rattle.std.specs.Prelude.{flat_map}
 use Rattle.std.specs.List.{cons_option, filter_map}
 use Rattle.std.specs.Option.{option_or, option_map}
@@ -8,8 +8,8 @@ use Rattle.ocsf_tree.specs.ByName.{text_cmp, at_name, IsByName}
 use Rattle.ocsf_tree.proofs.FirstOfEach.{name-at_name, at_name-append, IsByName-first_of_each, at_name-first_of_each}
 use Rattle.ocsf_raw.specs.declared.attribute.RawAttr.{RawAttr}
 use Rattle.ocsf_merge.specs.declared.spoken.Spoken.{Spoken}
-use Rattle.ocsf_merge.specs.Layers.{Layer, entry_of, entry_said, entries_for}
-use Rattle.ocsf_merge.specs.Table.{until_removal, counting, present, spoken, spoken_by, names_in, table_of}
+use Rattle.ocsf_merge.specs.Layers.{Layer, entry_said, entries_for}
+use Rattle.ocsf_merge.specs.Table.{until_removal, counting, present, spoken, names_in, table_of}
 use Rattle.ocsf_merge.specs.Merged.{merged}
 use Rattle.ocsf_merge.proofs.MergedLists.{Joins, merged-joins, joined}
 

@@ -1,12 +1,12 @@
 -- Lists by name are told apart by what they have at each name; of each name the first one.
-use Rattle.std.proofs.Common.{◌≡◌, ◌≢◌, ℕ, List, [], ◌∷◌, ◌++◌, map, Bool, true, false, cond, Option, Some, None, unwrap_or, T, refl, sym, ◌∙◌, ap, subst}
+use Rattle.std.proofs.Common.{◌≡◌, ◌≢◌, ℕ, List, [], ◌∷◌, ◌++◌, map, true, false, cond, Some, unwrap_or, T, refl, sym, ◌∙◌, ap, subst}
 use Rattle.std.specs.Option.{option_or}
 use Rattle.std.specs.declared.cmp.Ordering.{Ordering}
 use Rattle.std.specs.declared.cmp.Ordering.TheVariants.{Less, Equal, Greater}
 use Rattle.std.specs.Ordering.{is_eq}
 use Rattle.std.specs.Cmp.Lexicographic.{nat_list_cmp_total}
 use Rattle.std.specs.FinMap.Entries.{same_entries}
-use Rattle.ocsf_tree.specs.ByName.{text_cmp, named, at_name, is_by_name, IsByName, put_by_name}
+use Rattle.ocsf_tree.specs.ByName.{text_cmp, named, at_name, IsByName, put_by_name}
 use Rattle.ocsf_tree.specs.FirstOfEach.{first_of_each}
 use Rattle.ocsf_tree.proofs.NameLists.{same_text, IsByName-put, at_name-put_same, at_name-put_other}
 
