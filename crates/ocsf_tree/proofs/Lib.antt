@@ -3,6 +3,7 @@ pub mod FirstFound
 pub mod FirstOfEach
 pub mod Joined
 pub mod Keys
+pub mod LeastFaults
 pub mod NameLists
 pub mod Order
 pub mod Places

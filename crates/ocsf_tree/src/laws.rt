@@ -1,5 +1,6 @@
 // What holds of every tree, text and place. The functions do nothing: each contract is a law.
 ghost use Rattle.ocsf_tree.specs.Laws.{IsAlwaysRead, IsReadOnce, IsTextOfOne, IsTextOfParts, IsKeyOrder, IsPlaceOrder};
+ghost use Rattle.ocsf_tree.specs.LeastFault.{LeastIsLeast};
 
 use crate::key::Key;
 
@@ -31,4 +32,9 @@ pub fn keys_go_by_their_texts()
 /// Places are ordered totally.
 pub fn places_are_ordered()
     ensures { IsPlaceOrder }
+{}
+
+/// The least of several faults is one of them that no other comes before.
+pub fn least_faults_are_least()
+    ensures { LeastIsLeast }
 {}
