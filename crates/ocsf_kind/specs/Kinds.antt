@@ -5,22 +5,12 @@ use Rattle.std.specs.List.{filter_map}
 use Rattle.std.specs.Str.{bytes_eq}
 use Rattle.ocsf_tree.specs.ByName.{at_name}
 use Rattle.ocsf_raw.specs.declared.dictionary.TypeEntry.{TypeEntry}
+pub use Rattle.ocsf_schema.specs.Bases.{base_of}
 use Rattle.ocsf_schema.specs.declared.records.Base.{Base}
-use Rattle.ocsf_schema.specs.declared.records.Base.TheVariants.{Boolean, Words, Integer, Long, Float, Json}
 use Rattle.ocsf_schema.specs.declared.records.Kind.{Kind}
 use Rattle.ocsf_schema.specs.declared.records.Limit.{Limit}
 use Rattle.ocsf_kind.specs.declared.kinds.KindError.{KindError}
 use Rattle.ocsf_kind.specs.declared.kinds.KindError.TheVariants as error
-
--- the base type of that name
-abbrev pub base_of : List ℕ → Option Base
-base_of name =
-    if bytes_eq name (codes "boolean_t") then Some Boolean
-    else (if bytes_eq name (codes "string_t") then Some Words
-    else (if bytes_eq name (codes "integer_t") then Some Integer
-    else (if bytes_eq name (codes "long_t") then Some Long
-    else (if bytes_eq name (codes "float_t") then Some Float
-    else (if bytes_eq name (codes "json_t") then Some Json else None)))))
 
 -- the listed type of that name
 abbrev pub listed : List TypeEntry → List ℕ → Option TypeEntry

@@ -2,7 +2,7 @@ ghost use Rattle.std.specs.Prelude.{◌≡◌, ◌++◌, [], IfOk, unwrap_or, So
 ghost use Rattle.std.specs.Option.{option_copied, option_map};
 ghost use Rattle.std.specs.List.{cons_option};
 ghost use Rattle.ocsf_tree.specs.ByName.{IsByName};
-ghost use Rattle.ocsf_kind.specs.Kinds.{base_of, limit_of, IsKindOf};
+ghost use Rattle.ocsf_kind.specs.Kinds.{limit_of, IsKindOf};
 
 use ocsf_raw::TypeEntry;
 use ocsf_schema::{Base, Kind, Limit};
@@ -31,27 +31,6 @@ impl From<AllocError> for KindError {
 
     fn from(_error: AllocError) -> KindError {
         KindError::Memory
-    }
-}
-
-/// The base type of that name. It takes no memory.
-pub fn base_of(name: &str) -> Option<Base>
-    ensures { result ≡ base_of name.now }
-{
-    if name == "boolean_t" {
-        Some(Base::Boolean)
-    } else if name == "string_t" {
-        Some(Base::Words)
-    } else if name == "integer_t" {
-        Some(Base::Integer)
-    } else if name == "long_t" {
-        Some(Base::Long)
-    } else if name == "float_t" {
-        Some(Base::Float)
-    } else if name == "json_t" {
-        Some(Base::Json)
-    } else {
-        None
     }
 }
 
@@ -112,7 +91,7 @@ pub fn kind_of(alloc: Global, name: &str, types: &[TypeEntry]) -> Result<Kind, K
     let mut left = MOST_MOVES;
     'way: loop {
         let entry = find_by_name(types, now);
-        if let Some(base) = base_of(now) {
+        if let Some(base) = Base::named(now) {
             return Ok(ended(alloc, name, base, entry, limits)?);
         }
         let Some(entry) = entry else {

@@ -9,6 +9,6 @@ mod numbers;
 mod tests;
 
 pub use accepted::{Which, breaks, fits_base};
-pub use kinds::{KindError, base_of, kind_of};
+pub use kinds::{KindError, kind_of};
 pub use laws::cycles_have_no_end;
 pub use numbers::{class_uid, type_uid};

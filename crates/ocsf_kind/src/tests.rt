@@ -1,7 +1,7 @@
 ghost use Rattle.std.specs.Prelude.{IfOk};
 ghost use Rattle.ocsf_tree.specs.ByName.{IsByName};
 
-use crate::{KindError, Which, base_of, breaks, class_uid, fits_base, kind_of, type_uid};
+use crate::{KindError, Which, breaks, class_uid, fits_base, kind_of, type_uid};
 use ocsf_raw::{RawFile, TypeEntry, shape};
 use ocsf_schema::{Base, Kind};
 use ocsf_tree::{Row, read};
@@ -85,8 +85,8 @@ fn types_lead_to_bases(rt: HostRuntime) -> Result<(), Fail> {
     for (members, name, want) in rows {
         assert_eq!(rt; outcome(&rt, members, name)?.as_str(), want);
     }
-    assert_eq!(rt; base_of("object_t"), None);
-    assert_eq!(rt; base_of("string_t"), Some(Base::Words));
+    assert_eq!(rt; Base::named("object_t"), None);
+    assert_eq!(rt; Base::named("string_t"), Some(Base::Words));
     Ok(())
 }
 

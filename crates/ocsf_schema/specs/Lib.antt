@@ -1,3 +1,4 @@
+pub mod Bases
 pub mod Print
 pub mod Schema
 pub mod Joining

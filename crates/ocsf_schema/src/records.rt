@@ -18,6 +18,32 @@ pub enum Base {
     Json,
 }
 
+impl Base {
+    ghost use Rattle.std.specs.Prelude.{◌≡◌};
+    ghost use Rattle.ocsf_schema.specs.Bases.{base_of};
+
+    /// The base type of that name. It takes no memory.
+    pub fn named(name: &str) -> Option<Base>
+        ensures { result ≡ base_of name.now }
+    {
+        if name == "boolean_t" {
+            Some(Base::Boolean)
+        } else if name == "string_t" {
+            Some(Base::Words)
+        } else if name == "integer_t" {
+            Some(Base::Integer)
+        } else if name == "long_t" {
+            Some(Base::Long)
+        } else if name == "float_t" {
+            Some(Base::Float)
+        } else if name == "json_t" {
+            Some(Base::Json)
+        } else {
+            None
+        }
+    }
+}
+
 /// What one type on the way to a base asks of a value.
 #[derive(Debug, Drop)]
 pub struct Limit {
