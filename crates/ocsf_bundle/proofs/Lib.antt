@@ -1,5 +1,6 @@
 pub mod Afters
 pub mod Entries
+mod Examples
 pub mod Grouped
 pub mod NamedMaps
 pub mod Ordered
