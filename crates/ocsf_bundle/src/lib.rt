@@ -14,6 +14,8 @@ mod groups;
 mod index;
 mod keys;
 mod look;
+#[cfg(test)]
+mod look_tests;
 mod named_map;
 mod shows;
 mod stored;
