@@ -1,6 +1,7 @@
 use crate::{Bundle, Cell, Part, Shows, edit_of};
-use ocsf_raw::{ExtFile, ItemFile, RawError, RawFile, below, folder};
+use ocsf_raw::{DictFile, ExtFile, ItemFile, RawAttr, RawError, RawFile, below, folder};
 use ocsf_tree::{Key, Side, Text, read};
+use std::alloc::{AllocError, Global};
 use std::test::Fail;
 
 // Two extensions that count, one of them in a folder of another name, and one that doesn't; a name, a
@@ -42,42 +43,45 @@ fn caption(text: &Option<Text>) -> &str {
     }
 }
 
-// A part in a word, by the caption of what it shows.
-fn told(rt: &HostRuntime, part: &Part) -> Result<String, Fail> {
-    let alloc = rt.alloc();
-    let words = match part {
-        Part::There => String::from_str(alloc, "there")?,
-        Part::Item(file) => String::from_str(alloc, caption(&file.caption))?,
-        Part::Patch(ext, file) => {
-            format!(in alloc; "{} by {}", caption(&file.caption), ext.name.as_str())?
-        }
-        Part::Profile(file) => String::from_str(alloc, caption(&file.caption))?,
-        Part::Include(entries) => match entries.first() {
-            Some(entry) => String::from_str(alloc, caption(&entry.caption))?,
-            None => String::new(alloc),
-        },
-        Part::Dict(from, entry) => format!(in alloc; "{} of {from}", caption(&entry.caption))?,
-        Part::Kind(entry) => String::from_str(alloc, caption(&entry.caption))?,
-        Part::Category(uid, entry) => format!(in alloc; "{} of {uid}", caption(&entry.caption))?,
-        Part::Other => String::from_str(alloc, "built in")?,
-        Part::Ext(file) => String::from_str(alloc, caption(&file.caption))?,
-    };
-    Ok(words)
+// What a part shows, by its caption.
+fn told<'a>(part: &Part<'a>) -> &'a str {
+    match part {
+        Part::There => "there",
+        Part::Item(file) => caption(&file.caption),
+        Part::Patch(_, file) => caption(&file.caption),
+        Part::Profile(file) => caption(&file.caption),
+        Part::Include(entries) => first_caption(entries),
+        Part::Dict(_, entry) => caption(&entry.caption),
+        Part::Kind(entry) => caption(&entry.caption),
+        Part::Category(_, entry) => caption(&entry.caption),
+        Part::Other => "built in",
+        Part::Ext(file) => caption(&file.caption),
+    }
+}
+
+fn first_caption(entries: &[RawAttr]) -> &str {
+    match entries.first() {
+        Some(entry) => caption(&entry.caption),
+        None => "",
+    }
 }
 
 // What the cell shows, in a line.
-fn shown(rt: &HostRuntime, bundle: &Bundle, cell: &Cell) -> Result<String, Fail> {
-    let mut line = String::new(rt.alloc());
+fn shown(alloc: Global, bundle: &Bundle, cell: &Cell) -> Result<String, AllocError> {
+    let mut line = String::new(alloc);
     for k in 0..bundle.most() {
         match bundle.look(cell, k) {
-            Some(part) => {
-                line.push_str(&told(rt, &part)?)?;
-                line.push(';')?;
-            }
+            Some(part) => push_word(&mut line, told(&part))?,
             None => return Ok(line),
         }
     }
     Ok(line)
+}
+
+fn push_word(line: &mut String, word: &str) -> Result<(), AllocError> {
+    line.push_str(word)?;
+    line.push(';')?;
+    Ok(())
 }
 
 // ---- the same by going through all files
@@ -88,203 +92,188 @@ fn counted<'a>(bundle: &'a Bundle, path: &str) -> Option<Option<&'a ExtFile>> {
         return Some(None);
     }
     for file in bundle.files() {
-        if let RawFile::Extension(ext) = &file.get().raw {
-            let is_here = folder(below(file.get().path.as_str())) == folder(below(path));
-            if is_here && bundle.enabled().iter().any(|name| *name == ext.name) {
-                return Some(Some(ext));
-            }
+        if let RawFile::Extension(ext) = &file.get().raw
+            && folder(below(file.get().path.as_str())) == folder(below(path))
+            && bundle.enabled().iter().any(|name| *name == ext.name)
+        {
+            return Some(Some(ext));
         }
     }
     None
 }
 
-fn key_of(rt: &HostRuntime, ext: Option<&ExtFile>, name: &str) -> Result<String, Fail> {
+fn is_key(ext: Option<&ExtFile>, name: &str, key: &str) -> bool {
     match ext {
-        Some(ext) => Ok(format!(in rt.alloc(); "{}/{name}", ext.name.as_str())?),
-        None => Ok(String::from_str(rt.alloc(), name)?),
+        Some(ext) => folder(key) == ext.name.as_str() && below(key) == name,
+        None => key == name,
     }
 }
 
-fn patches<'a>(ext: Option<&ExtFile>, file: &'a ItemFile) -> Option<&'a str> {
-    let parent = file.parent.as_ref()?;
-    let is_own = match &file.name {
-        Some(name) => *name != *parent,
+fn is_named(file: &ItemFile, name: &Text) -> bool {
+    match &file.name {
+        Some(own) => *own == *name,
+        None => false,
+    }
+}
+
+// Whether the file of the extension patches the item of that name.
+fn patches(ext: Option<&ExtFile>, file: &ItemFile, name: &str) -> bool {
+    match &file.parent {
+        Some(parent) => {
+            ext.is_some()
+                && parent.as_str() == name
+                && !name.as_bytes().contains(&b'/')
+                && (file.name.is_none() || is_named(file, parent))
+        }
+        None => false,
+    }
+}
+
+fn is_item(ext: Option<&ExtFile>, file: &ItemFile, key: &Key) -> bool {
+    let is_patch = match &file.parent {
+        Some(parent) => patches(ext, file, parent.as_str()),
         None => false,
     };
-    if ext.is_some() && !is_own && !parent.as_str().as_bytes().contains(&b'/') {
-        Some(parent.as_str())
-    } else {
-        None
+    match &file.name {
+        Some(name) => !is_patch && file.side == key.side && is_key(ext, name.as_str(), key.name.as_str()),
+        None => false,
     }
 }
 
-fn is_item(rt: &HostRuntime, ext: Option<&ExtFile>, file: &ItemFile, key: &Key) -> Result<bool, Fail> {
-    let Some(name) = &file.name else {
-        return Ok(false);
-    };
-    let full = key_of(rt, ext, name.as_str())?;
-    Ok(patches(ext, file).is_none() && file.side == key.side && full.as_str() == key.name.as_str())
-}
-
-fn plain_item(
-    rt: &HostRuntime,
-    cell: &Cell,
-    ext: Option<&ExtFile>,
-    file: &ItemFile,
-) -> Result<Option<String>, Fail> {
-    let alloc = rt.alloc();
+fn plain_item<'a>(cell: &Cell, ext: Option<&ExtFile>, file: &'a ItemFile) -> Option<&'a str> {
     match cell {
-        Cell::Item(key) => {
-            if is_item(rt, ext, file, key)? {
-                return Ok(Some(String::from_str(alloc, caption(&file.caption))?));
-            }
+        Cell::Item(key) if is_item(ext, file, key) => Some(caption(&file.caption)),
+        Cell::Exists(key) if is_item(ext, file, key) => Some("there"),
+        Cell::Patches(key) if file.side == key.side && patches(ext, file, key.name.as_str()) => {
+            Some(caption(&file.caption))
         }
-        Cell::Exists(key) => {
-            if is_item(rt, ext, file, key)? {
-                return Ok(Some(String::from_str(alloc, "there")?));
-            }
-        }
-        Cell::Patches(key) => {
-            let is_it = file.side == key.side && patches(ext, file) == Some(key.name.as_str());
-            if let Some(ext) = ext
-                && is_it
-            {
-                let words = format!(in alloc; "{} by {}", caption(&file.caption), ext.name.as_str())?;
-                return Ok(Some(words));
-            }
-        }
-        _ => {}
+        _ => None,
     }
-    Ok(None)
+}
+
+fn is_here(cell: &Cell, ext: Option<&ExtFile>, path: &str) -> bool {
+    match (cell, ext) {
+        (Cell::Include { from, path: wanted }, Some(ext)) => {
+            *from == ext.name && wanted.as_str() == below(below(path))
+        }
+        (Cell::Include { from, path: wanted }, None) => from.is_empty() && wanted.as_str() == path,
+        _ => false,
+    }
+}
+
+fn plain_entry<'a>(cell: &Cell, file: &'a DictFile) -> Option<&'a str> {
+    match cell {
+        Cell::Dict(name) => {
+            let entry = file.attributes.as_slice().iter().find(|entry| entry.name == *name)?;
+            Some(caption(&entry.caption))
+        }
+        Cell::Kind(name) => {
+            let entry = file.types.as_slice().iter().find(|entry| entry.name == *name)?;
+            Some(caption(&entry.caption))
+        }
+        _ => None,
+    }
 }
 
 // What the file shows of the cell.
-fn plain_part(
-    rt: &HostRuntime,
+fn plain_part<'a>(
     cell: &Cell,
     ext: Option<&ExtFile>,
     path: &str,
-    raw: &RawFile,
-) -> Result<Option<String>, Fail> {
-    let alloc = rt.alloc();
-    let from = ext.map_or("", |ext| ext.name.as_str());
-    let below_folder = if ext.is_some() { below(below(path)) } else { path };
+    raw: &'a RawFile,
+) -> Option<&'a str> {
     match (cell, raw) {
-        (_, RawFile::Item(file)) => return plain_item(rt, cell, ext, file),
-        (Cell::Profile(key), RawFile::Profile(file)) => {
-            if key_of(rt, ext, file.name.as_str())?.as_str() == key.as_str() {
-                return Ok(Some(String::from_str(alloc, caption(&file.caption))?));
-            }
+        (_, RawFile::Item(file)) => plain_item(cell, ext, file),
+        (_, RawFile::Dictionary(file)) => plain_entry(cell, file),
+        (Cell::Profile(key), RawFile::Profile(file)) if is_key(ext, file.name.as_str(), key.as_str()) => {
+            Some(caption(&file.caption))
         }
-        (Cell::Include { from: wanted, path: place }, RawFile::Profile(file)) => {
-            if wanted.as_str() == from && place.as_str() == below_folder {
-                return Ok(Some(String::from_str(alloc, caption(&file.caption))?));
-            }
+        (Cell::Include { .. }, RawFile::Profile(file)) if is_here(cell, ext, path) => {
+            Some(caption(&file.caption))
         }
-        (Cell::Include { from: wanted, path: place }, RawFile::Include(entries)) => {
-            if wanted.as_str() == from && place.as_str() == below_folder {
-                let words = entries.as_slice().first().map_or("", |entry| caption(&entry.caption));
-                return Ok(Some(String::from_str(alloc, words)?));
-            }
-        }
-        (Cell::Dict(name), RawFile::Dictionary(file)) => {
-            for entry in file.attributes.as_slice() {
-                if entry.name == *name {
-                    let words = format!(in alloc; "{} of {from}", caption(&entry.caption))?;
-                    return Ok(Some(words));
-                }
-            }
-        }
-        (Cell::Kind(name), RawFile::Dictionary(file)) => {
-            for entry in file.types.as_slice() {
-                if entry.name == *name {
-                    return Ok(Some(String::from_str(alloc, caption(&entry.caption))?));
-                }
-            }
+        (Cell::Include { .. }, RawFile::Include(entries)) if is_here(cell, ext, path) => {
+            Some(first_caption(entries.as_slice()))
         }
         (Cell::Category(key), RawFile::Categories(entries)) => {
-            let uid = ext.map_or(0, |ext| ext.uid);
-            for entry in entries.as_slice() {
-                if key_of(rt, ext, entry.name.as_str())?.as_str() == key.as_str() {
-                    let words = format!(in alloc; "{} of {uid}", caption(&entry.caption))?;
-                    return Ok(Some(words));
-                }
-            }
+            let entry = entries.as_slice().iter().find(|entry| is_key(ext, entry.name.as_str(), key.as_str()))?;
+            Some(caption(&entry.caption))
         }
-        (Cell::Ext(name), RawFile::Extension(file)) if file.name == *name => {
-            return Ok(Some(String::from_str(alloc, caption(&file.caption))?));
-        }
-        _ => {}
+        (Cell::Ext(name), RawFile::Extension(file)) if file.name == *name => Some(caption(&file.caption)),
+        _ => None,
     }
-    Ok(None)
 }
 
 // What the files of that layer show, or those of all layers by path.
-fn layer_plainly(
-    rt: &HostRuntime,
+fn push_layer(
+    line: &mut String,
     bundle: &Bundle,
     cell: &Cell,
     layer: Option<u32>,
-    line: &mut String,
-) -> Result<(), Fail> {
+) -> Result<(), AllocError> {
     for file in bundle.files() {
         let file = file.get();
         let Some(ext) = counted(bundle, file.path.as_str()) else {
             continue;
         };
-        let uid = ext.map_or(0, |ext| ext.uid);
-        if layer.is_none_or(|layer| layer == uid)
-            && let Some(words) = plain_part(rt, cell, ext, file.path.as_str(), &file.raw)?
-        {
-            line.push_str(&words)?;
-            line.push(';')?;
+        let uid = match ext {
+            Some(ext) => ext.uid,
+            None => 0,
+        };
+        if layer.is_none() || layer == Some(uid) {
+            if let Some(word) = plain_part(cell, ext, file.path.as_str(), &file.raw) {
+                push_word(line, word)?;
+            }
         }
     }
     Ok(())
 }
 
-fn shown_plainly(rt: &HostRuntime, bundle: &Bundle, cell: &Cell) -> Result<String, Fail> {
-    let mut line = String::new(rt.alloc());
+fn is_layered(cell: &Cell) -> bool {
+    matches!(cell, Cell::Patches(_) | Cell::Dict(_) | Cell::Kind(_) | Cell::Category(_))
+}
+
+fn is_other(cell: &Cell) -> bool {
     match cell {
-        Cell::Patches(_) | Cell::Dict(_) | Cell::Kind(_) | Cell::Category(_) => {
-            for uid in 0..1000 {
-                layer_plainly(rt, bundle, cell, Some(uid), &mut line)?;
-            }
-        }
-        _ => layer_plainly(rt, bundle, cell, None, &mut line)?,
+        Cell::Category(key) => key.as_str() == "other",
+        _ => false,
     }
-    if let Cell::Category(key) = cell
-        && line.is_empty()
-        && key.as_str() == "other"
-    {
-        line.push_str("built in;")?;
+}
+
+fn shown_plainly(alloc: Global, bundle: &Bundle, cell: &Cell) -> Result<String, AllocError> {
+    let mut line = String::new(alloc);
+    if is_layered(cell) {
+        for uid in 0..1000 {
+            push_layer(&mut line, bundle, cell, Some(uid))?;
+        }
+    } else {
+        push_layer(&mut line, bundle, cell, None)?;
+    }
+    if line.is_empty() && is_other(cell) {
+        push_word(&mut line, "built in")?;
     }
     Ok(line)
 }
 
 // ---- cells by a word and a text
 
-fn cell(rt: &HostRuntime, kind: &str, name: &str) -> Result<Cell, Fail> {
-    let alloc = rt.alloc();
-    let text = Text::of(alloc, name)?;
-    let cell = match kind {
-        "class" => Cell::Item(Key { side: Side::Class, name: text }),
-        "object" => Cell::Item(Key { side: Side::Object, name: text }),
-        "exists" => Cell::Exists(Key { side: Side::Object, name: text }),
-        "patches" => Cell::Patches(Key { side: Side::Object, name: text }),
-        "profile" => Cell::Profile(text),
-        "core" => Cell::Include { from: Text::new(alloc), path: text },
-        "win" => Cell::Include { from: Text::of(alloc, "win")?, path: text },
-        "dict" => Cell::Dict(text),
-        "kind" => Cell::Kind(text),
-        "category" => Cell::Category(text),
-        _ => Cell::Ext(text),
-    };
-    Ok(cell)
+fn cell(kind: &str, name: Text, from: Text) -> Cell {
+    match kind {
+        "class" => Cell::Item(Key { side: Side::Class, name }),
+        "object" => Cell::Item(Key { side: Side::Object, name }),
+        "exists" => Cell::Exists(Key { side: Side::Object, name }),
+        "patches" => Cell::Patches(Key { side: Side::Object, name }),
+        "profile" => Cell::Profile(name),
+        "" | "win" => Cell::Include { from, path: name },
+        "dict" => Cell::Dict(name),
+        "kind" => Cell::Kind(name),
+        "category" => Cell::Category(name),
+        _ => Cell::Ext(name),
+    }
 }
 
 #[test]
 fn shows_what_the_files_say(rt: HostRuntime) -> Result<(), Fail> {
+    let alloc = rt.alloc();
     let bundle = bundle_of(&rt, FILES)?;
     let rows: [(&str, &str, &str); 30] = [
         ("object", "file", "core file;"),
@@ -296,32 +285,34 @@ fn shows_what_the_files_say(rt: HostRuntime) -> Result<(), Fail> {
         ("class", "win/file", "win class;"),
         ("exists", "file", "there;"),
         ("exists", "lin/file", ""),
-        ("patches", "file", "lin patch by lin;win patch by win;"),
+        ("patches", "file", "lin patch;win patch;"),
         ("patches", "win/file", ""),
         ("profile", "p", "core p;"),
         ("profile", "win/p", "win p;"),
         ("profile", "windows/p", ""),
-        ("core", "includes/i.json", "core i;"),
+        ("", "includes/i.json", "core i;"),
         ("win", "includes/i.json", "win i;"),
         ("win", "profiles/p.json", "win p;"),
-        ("core", "profiles/q.json", ""),
-        ("core", "objects/file.json", ""),
-        ("dict", "a", "core a of ;lin a of lin;win a of win;"),
-        ("dict", "b", "core b of ;"),
+        ("", "profiles/q.json", ""),
+        ("", "objects/file.json", ""),
+        ("dict", "a", "core a;lin a;win a;"),
+        ("dict", "b", "core b;"),
         ("dict", "c", ""),
         ("kind", "t", "core t;win t;"),
-        ("category", "c", "core c of 0;"),
-        ("category", "win/c", "win c of 9;"),
+        ("category", "c", "core c;"),
+        ("category", "win/c", "win c;"),
         ("category", "other", "built in;"),
-        ("category", "win/other", "win other of 9;"),
+        ("category", "win/other", "win other;"),
         ("ext", "win", "win;"),
         ("ext", "off", ""),
         ("ext", "mac", ""),
     ];
     for (kind, name, want) in rows {
-        let cell = cell(&rt, kind, name)?;
-        assert_eq!(rt; shown(&rt, &bundle, &cell)?.as_str(), want, "at {kind} {name}");
-        assert_eq!(rt; shown_plainly(&rt, &bundle, &cell)?.as_str(), want, "plainly at {kind} {name}");
+        let cell = cell(kind, Text::of(alloc, name)?, Text::of(alloc, kind)?);
+        let line = shown(alloc, &bundle, &cell)?;
+        let plain = shown_plainly(alloc, &bundle, &cell)?;
+        assert_eq!(rt; line.as_str(), want, "at {kind} {name}");
+        assert_eq!(rt; plain.as_str(), want, "plainly at {kind} {name}");
     }
     Ok(())
 }
@@ -329,85 +320,89 @@ fn shows_what_the_files_say(rt: HostRuntime) -> Result<(), Fail> {
 #[test]
 fn keys_in_order(rt: HostRuntime) -> Result<(), Fail> {
     let bundle = bundle_of(&rt, FILES)?;
-    let mut line = String::new(rt.alloc());
-    for k in 0..10 {
-        if let Some(key) = bundle.key_at(k) {
-            line.push_str(key.to_text()?.as_str())?;
-            line.push(' ')?;
+    let rows = ["class:file", "class:win/file", "object:file", "object:lin/own"];
+    for (k, want) in rows.iter().enumerate() {
+        match bundle.key_at(k) {
+            Some(key) => assert_eq!(rt; key.to_text()?.as_str(), *want),
+            None => assert!(rt; false, "no key at {k}"),
         }
     }
-    assert_eq!(rt; line.as_str(), "class:file class:win/file object:file object:lin/own ");
+    assert!(rt; bundle.key_at(4).is_none());
     Ok(())
 }
 
-// The paths and the enabled names of a bundle, or its fault.
-fn after(rt: &HostRuntime, bundle: &Bundle, text: &str) -> Result<(Option<Bundle>, String), Fail> {
-    let alloc = rt.alloc();
-    let edit = edit_of(alloc, &read(alloc, text.as_bytes())?)?;
-    match bundle.after(&edit) {
-        Ok(made) => {
-            let mut line = String::new(alloc);
-            for file in made.files() {
-                line.push_str(file.get().path.as_str())?;
-                line.push('=')?;
-                line.push_str(str::from_utf8(file.get().text.as_slice())?)?;
-                line.push(' ')?;
-            }
-            for name in made.enabled() {
-                line.push_str(name.as_str())?;
-                line.push(' ')?;
-            }
-            Ok((Some(made), line))
-        }
-        Err(RawError::Memory) => Ok((None, String::from_str(alloc, "memory")?)),
-        Err(RawError::Fault(fault)) => Ok((
-            None,
-            format!(in alloc; "{} {} {}", fault.code.as_str(), fault.subject.as_str(), fault.name.as_str())?,
-        )),
+// The paths, texts and enabled names of a bundle, in a line.
+fn line_of(alloc: Global, bundle: &Bundle) -> Result<String, Fail> {
+    let mut line = String::new(alloc);
+    for file in bundle.files() {
+        push_word(&mut line, file.get().path.as_str())?;
+        push_word(&mut line, str::from_utf8(file.get().text.as_slice())?)?;
     }
+    for name in bundle.enabled() {
+        push_word(&mut line, name.as_str())?;
+    }
+    Ok(line)
+}
+
+fn fault_line(alloc: Global, error: &RawError) -> Result<String, AllocError> {
+    let mut line = String::new(alloc);
+    match error {
+        RawError::Fault(fault) => {
+            push_word(&mut line, fault.code.as_str())?;
+            push_word(&mut line, fault.subject.as_str())?;
+            push_word(&mut line, fault.name.as_str())?;
+        }
+        RawError::Memory => push_word(&mut line, "memory")?,
+    }
+    Ok(line)
 }
 
 #[test]
 fn applies_edits(rt: HostRuntime) -> Result<(), Fail> {
+    let alloc = rt.alloc();
     let rows: [(&str, &str); 12] = [
         ("[]", ""),
         (
             r#"[{"put":"objects/b.json","body":{"name":"b"}},{"put":"objects/a.json","body":{"name":"a"}},{"enable":"y"},{"enable":"x"},{"enable":"y"}]"#,
-            r#"objects/a.json={"name":"a"} objects/b.json={"name":"b"} x y "#,
+            r#"objects/a.json;{"name":"a"};objects/b.json;{"name":"b"};x;y;"#,
         ),
         (
             r#"[{"put":"objects/a.json","body":{ "name" : "c" }},{"put":"objects/a.json","body":{"zz":1,"name":"d"}},{"disable":"z"},{"disable":"x"}]"#,
-            r#"objects/a.json={"name":"d","zz":1} objects/b.json={"name":"b"} y "#,
+            r#"objects/a.json;{"name":"d","zz":1};objects/b.json;{"name":"b"};y;"#,
         ),
-        (r#"[{"remove":"objects/q.json"}]"#, "absent objects/q.json "),
-        (r#"[{"remove":"nowhere"},{"put":"nowhere","body":5}]"#, "absent nowhere "),
-        (r#"[{"put":"nowhere","body":5},{"remove":"nowhere"}]"#, "path_unknown nowhere "),
+        (r#"[{"remove":"objects/q.json"}]"#, "absent;objects/q.json;;"),
+        (r#"[{"remove":"nowhere"},{"put":"nowhere","body":5}]"#, "absent;nowhere;;"),
+        (r#"[{"put":"nowhere","body":5},{"remove":"nowhere"}]"#, "path_unknown;nowhere;;"),
         (
             r#"[{"remove":"objects/a.json"},{"remove":"objects/a.json"}]"#,
-            "absent objects/a.json ",
+            "absent;objects/a.json;;",
         ),
         (
             r#"[{"put":"objects/c.json","body":[]},{"put":"nowhere","body":5}]"#,
-            "shape objects/c.json  not_an_object",
+            "shape;objects/c.json; not_an_object;",
         ),
         (
             r#"[{"remove":"objects/a.json"},{"put":"objects/a.json","body":{"name":"e"}},{"remove":"objects/b.json"}]"#,
-            r#"objects/a.json={"name":"e"} y "#,
+            r#"objects/a.json;{"name":"e"};y;"#,
         ),
         (
             r#"[{"put":"objects/c.json","body":{"name":"c"}},{"remove":"objects/c.json"},{"disable":"y"},{"enable":"y"}]"#,
-            r#"objects/a.json={"name":"e"} y "#,
+            r#"objects/a.json;{"name":"e"};y;"#,
         ),
-        (r#"[{"put":"objects/c.json","body":{}}]"#, "shape objects/c.json /name missing"),
+        (r#"[{"put":"objects/c.json","body":{}}]"#, "shape;objects/c.json;/name missing;"),
         (r#"[{"remove":"objects/a.json"},{"disable":"y"}]"#, ""),
     ];
-    let mut bundle = Bundle::empty(rt.alloc());
+    let mut bundle = Bundle::empty(alloc);
     for (text, want) in rows {
-        let (made, line) = after(&rt, &bundle, text)?;
+        let edit = edit_of(alloc, &read(alloc, text.as_bytes())?)?;
+        let line = match bundle.after(&edit) {
+            Ok(made) => {
+                bundle = made;
+                line_of(alloc, &bundle)?
+            }
+            Err(error) => fault_line(alloc, &error)?,
+        };
         assert_eq!(rt; line.as_str(), want, "after {text}");
-        if let Some(made) = made {
-            bundle = made;
-        }
     }
     Ok(())
 }
