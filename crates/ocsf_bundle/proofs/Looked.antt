@@ -33,7 +33,7 @@ shown_each f g (x ∷ xs) =
     one (Some y) = refl
 
 -- what is passed over gives nothing
-passed_over : {A B : Type 0} (p : A → Bool) (f : A → Option B) → ((x : A) → p x ≡ false → f x ≡ None) → (xs : List A) → filter_map f (filter p xs) ≡ filter_map f xs
+pub passed_over : {A B : Type 0} (p : A → Bool) (f : A → Option B) → ((x : A) → p x ≡ false → f x ≡ None) → (xs : List A) → filter_map f (filter p xs) ≡ filter_map f xs
 passed_over p f none [] = refl
 passed_over p f none (x ∷ xs) =
     elim (p x) as (λ (b : Bool). p x ≡ b → filter_map f (cond b (x ∷ filter p xs) (filter p xs)) ≡ filter_map f (x ∷ xs)) [
@@ -41,7 +41,7 @@ passed_over p f none (x ∷ xs) =
       | false ↦ λ e. passed_over p f none xs ∙ ap (λ o. cons_option o (filter_map f xs)) (sym (none x e))
     ] refl
 
-side_group : (key : Side → ActiveFile → Option (List ℕ)) (s : Side) (q : List ℕ) (files : List ActiveFile) → group_at q (groups_by_side s (side_groups key files)) ≡ giving (key s) q files
+pub side_group : (key : Side → ActiveFile → Option (List ℕ)) (s : Side) (q : List ℕ) (files : List ActiveFile) → group_at q (groups_by_side s (side_groups key files)) ≡ giving (key s) q files
 side_group key side.Class q files = group_at-groups_of (key side.Class) files q
 side_group key side.Object q files = group_at-groups_of (key side.Object) files q
 
@@ -83,7 +83,7 @@ no_categories (raw.Extension file) e = refl
 no_entry : (name : List ℕ) (a : ActiveFile) → is_dictionary a ≡ false → dict_of name a ≡ None
 no_entry name a e = ap (λ l. option_map (dict_by a) (at_name (λ entry. entry.name) name l)) (no_attributes a.file.raw e)
 
-no_kind : (name : List ℕ) (a : ActiveFile) → is_dictionary a ≡ false → kind_of name a ≡ None
+pub no_kind : (name : List ℕ) (a : ActiveFile) → is_dictionary a ≡ false → kind_of name a ≡ None
 no_kind name a e = ap (at_name (λ entry. entry.name) name) (no_types a.file.raw e)
 
 nowhere : (a : ActiveFile) → is_categories a ≡ false → (o : Option (List ℕ)) → option_and_then (category_named a) o ≡ None

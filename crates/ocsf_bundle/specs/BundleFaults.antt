@@ -1,11 +1,10 @@
 -- What is wrong with the files as a whole: their number, their keys and numbers, their patches, and the types of their dictionaries.
-use Rattle.std.specs.Prelude.{ℕ, zero, suc, ◌+◌, ◌*◌, ◌==◌, ◌&&◌, ◌||◌, not, nat_lt, Bool, true, false, List, [], ◌∷◌, ◌++◌, length, map, reverse, flat_map, codes, decimal, Option, Some, None, unwrap_or, is_some, if◌then◌else◌}
-use Rattle.std.specs.Option.{option_map, option_map_or, option_and_then, option_or}
+use Rattle.std.specs.Prelude.{ℕ, zero, suc, ◌+◌, ◌*◌, ◌==◌, ◌&&◌, ◌||◌, not, nat_lt, Bool, false, List, [], ◌∷◌, ◌++◌, length, map, flat_map, codes, decimal, Option, Some, None, unwrap_or, is_some, if◌then◌else◌}
+use Rattle.std.specs.Option.{option_map_or, option_and_then, option_or}
 use Rattle.std.specs.List.{filter_map, list_any, sum_by}
 use Rattle.std.specs.Str.{bytes_eq}
 use Rattle.std.specs.Ordering.{is_lt}
 use Rattle.ocsf_tree.specs.ByName.{text_cmp}
-use Rattle.ocsf_tree.specs.FirstOfEach.{first_of_each}
 use Rattle.ocsf_tree.specs.Key.{side_text}
 use Rattle.ocsf_tree.specs.LeastFault.{least_fault}
 use Rattle.ocsf_tree.specs.declared.fault.Fault.{Fault}
@@ -17,15 +16,20 @@ use Rattle.ocsf_raw.specs.declared.files.ExtFile.{ExtFile}
 use Rattle.ocsf_raw.specs.declared.files.ItemFile.{ItemFile}
 use Rattle.ocsf_raw.specs.declared.files.CategoryEntry.{CategoryEntry}
 use Rattle.ocsf_raw.specs.declared.dictionary.TypeEntry.{TypeEntry}
+use Rattle.ocsf_schema.specs.Bases.{base_of}
 use Rattle.ocsf_bundle.specs.declared.stored.StoredFile.{StoredFile}
 use Rattle.ocsf_bundle.specs.declared.stored.ActiveFile.{ActiveFile}
-use Rattle.ocsf_bundle.specs.Active.{active_files, in_layers, extension_uid}
+use Rattle.ocsf_bundle.specs.declared.numbers.Numbered.{Numbered}
+use Rattle.ocsf_bundle.specs.Active.{active_files, extension_uid}
 use Rattle.ocsf_bundle.specs.Keys.{key_of, has_slash, patched, giving, keys_given, key_given, profile_given, extension_given, active_keys}
-use Rattle.ocsf_bundle.specs.Looks.{Looks, is_there}
-use Rattle.ocsf_bundle.specs.FilesLook.{item_of, categories_said, types_said, extension_file_of, looks_of}
+use Rattle.ocsf_bundle.specs.Looks.{is_there}
+use Rattle.ocsf_bundle.specs.FilesLook.{item_of, categories_said, types_said, extension_file_of, looks}
 
 abbrev pub fault : Code → List ℕ → List ℕ → Fault
 fault c subject name = record { code = c; subject = subject; name = name }
+
+abbrev pub fault_if : Bool → Fault → Option Fault
+fault_if is_so f = if is_so then Some f else None
 
 -- `label:name`
 abbrev pub labelled : List ℕ → List ℕ → List ℕ
@@ -40,36 +44,43 @@ max_files = 4096
 abbrev pub max_bytes : ℕ
 max_bytes = 16777216
 
-abbrev pub max_enabled : ℕ
-max_enabled = 64
+abbrev pub max_extensions : ℕ
+max_extensions = 64
 
 abbrev pub max_items : ℕ
 max_items = 4096
 
 -- there are more than may be
-abbrev pub too_many : List ℕ → ℕ → ℕ → List Fault
-too_many what limit n = if nat_lt limit n then fault code.TooMany (codes "bundle") what ∷ [] else []
+abbrev pub too_many : List ℕ → ℕ → ℕ → Option Fault
+too_many what limit n = fault_if (nat_lt limit n) (fault code.TooMany (codes "bundle") what)
 
-abbrev pub sizes : List StoredFile → List (List ℕ) → List ActiveFile → List Fault
-sizes files enabled active =
+-- an enabled name counts whether or not an extension has it
+abbrev pub limits_passed : List StoredFile → List (List ℕ) → ℕ → List Fault
+limits_passed files enabled items = filter_map (λ passed. passed) (
     too_many (codes "files") max_files (length files)
-    ++ too_many (codes "bytes") max_bytes (sum_by (λ file. length file.text) files)
-    ++ too_many (codes "extensions") max_enabled (length enabled)
-    ++ too_many (codes "items") max_items (length (active_keys active))
+    ∷ too_many (codes "bytes") max_bytes (sum_by (λ file. length file.text) files)
+    ∷ too_many (codes "extensions") max_extensions (length enabled)
+    ∷ too_many (codes "items") max_items items
+    ∷ [])
 
--- ---- extensions and keys
+-- ---- extensions
 
 -- an enabled name of which no file is that of the extension
-abbrev pub extension_unknown : List ActiveFile → List ℕ → List Fault
-extension_unknown active name = if is_there (giving extension_given name active) then [] else fault code.ExtensionUnknown name [] ∷ []
+abbrev pub extension_unknown : List ActiveFile → List ℕ → Option Fault
+extension_unknown active name = fault_if (not (is_there (giving extension_given name active))) (fault code.ExtensionUnknown name [])
+
+abbrev pub unknown_extensions : List (List ℕ) → List ActiveFile → List Fault
+unknown_extensions enabled active = filter_map (extension_unknown active) enabled
+
+-- ---- keys
 
 -- the second of the files that give one key
-abbrev pub second_of : List ℕ → List ℕ → List ActiveFile → List Fault
-second_of label name (x ∷ y ∷ rest) = fault code.KeyClash (labelled label name) y.file.path ∷ []
-second_of label name _ = []
+abbrev pub second_of : List ℕ → List ℕ → List ActiveFile → Option Fault
+second_of label name (x ∷ y ∷ rest) = Some (fault code.KeyClash (labelled label name) y.file.path)
+second_of label name _ = None
 
 abbrev pub clashes : List ℕ → (ActiveFile → Option (List ℕ)) → List ActiveFile → List Fault
-clashes label key active = flat_map (λ name. second_of label name (giving key name active)) (keys_given key active)
+clashes label key active = filter_map (λ name. second_of label name (giving key name active)) (keys_given key active)
 
 abbrev pub key_clashes : List ActiveFile → List Fault
 key_clashes active =
@@ -80,80 +91,140 @@ key_clashes active =
 
 -- ---- numbers
 
--- something of a name that has a number
-pub record Numbered : Type 0 where
-  pub name : List ℕ
-  pub number : ℕ
+-- of a lesser name, with that number
+abbrev pub is_before : ℕ → List ℕ → Numbered → Bool
+is_before number name x = (x.number == number) && is_lt (text_cmp x.name name)
 
--- one of a lesser name has the same number
-abbrev pub is_taken : List Numbered → Numbered → Bool
-is_taken all x = list_any (λ y. (y.number == x.number) && is_lt (text_cmp y.name x.name)) all
+abbrev pub taken : List ℕ → Numbered → Fault
+taken label x = fault code.UidTaken (labelled label x.name) (decimal x.number)
 
-abbrev pub taken : List ℕ → List Numbered → List Fault
-taken label all = flat_map (λ x. if is_taken all x then fault code.UidTaken (labelled label x.name) (decimal x.number) ∷ [] else []) all
+-- something that has the number of one of a lesser name
+abbrev pub number_taken : List ℕ → List Numbered → Numbered → Option Fault
+number_taken label all x = fault_if (list_any (is_before x.number x.name) all) (taken label x)
 
-abbrev pub numbered_extension : ExtFile → Numbered
-numbered_extension ext = record { name = ext.name; number = ext.uid }
+abbrev pub numbers_taken : List ℕ → List Numbered → List Fault
+numbers_taken label all = filter_map (number_taken label all) all
+
+abbrev pub numbered : List ℕ → ℕ → Numbered
+numbered name number = record { name = name; number = number }
+
+abbrev pub extension_number : ExtFile → Numbered
+extension_number ext = numbered ext.name ext.uid
 
 abbrev pub extension_numbers : List ActiveFile → List Numbered
-extension_numbers active = map numbered_extension (filter_map extension_file_of active)
+extension_numbers active = map extension_number (filter_map extension_file_of active)
 
--- the number of a category: of core as written, of an extension after the extension's uid
-abbrev pub category_number : ActiveFile → CategoryEntry → ℕ
-category_number active entry = extension_uid active * 100 + entry.uid
-
-abbrev pub numbered_category : ActiveFile → CategoryEntry → Numbered
-numbered_category active entry = record { name = key_of active entry.name; number = category_number active entry }
+-- of core a category has the number that is written, of an extension it has it after the extension's uid
+abbrev pub category_number : ActiveFile → CategoryEntry → Numbered
+category_number active entry = numbered (key_of active entry.name) (extension_uid active * 100 + entry.uid)
 
 abbrev pub listed_categories : List ActiveFile → List Numbered
-listed_categories active = flat_map (λ file. map (numbered_category file) (categories_said file.file.raw)) active
+listed_categories active = flat_map (λ file. map (category_number file) (categories_said file.file.raw)) active
 
-abbrev pub other_category : Numbered
-other_category = record { name = codes "other"; number = 0 }
+abbrev pub is_other : Numbered → Bool
+is_other category = bytes_eq category.name (codes "other")
 
--- the categories, with the built-in one where no file gives it
-abbrev pub category_numbers : List ActiveFile → List Numbered
-category_numbers active =
-    let listed = listed_categories active in
-    if list_any (λ c. bytes_eq c.name (codes "other")) listed then listed else listed ++ other_category ∷ []
+-- with the built-in one, where no file gives it
+abbrev pub with_other : List Numbered → List Numbered
+with_other categories = if list_any is_other categories then categories else categories ++ numbered (codes "other") 0 ∷ []
+
+abbrev pub uids_taken : List ActiveFile → List Fault
+uids_taken active =
+    numbers_taken (codes "extension") (extension_numbers active)
+    ++ numbers_taken (codes "category") (with_other (listed_categories active))
 
 -- ---- patches
+
+-- whether a file gives that key of a side
+abbrev pub IsGiven : Type 0
+IsGiven = Side → List ℕ → Bool
+
+abbrev pub is_given : List ActiveFile → IsGiven
+is_given active s name = is_there (giving (key_given s) name active)
 
 -- a file of an extension that extends an item of another extension and has no name of its own
 abbrev pub patches_elsewhere : ActiveFile → ItemFile → List ℕ → Bool
 patches_elsewhere active file parent = is_some active.ext && (not (is_some file.name) && has_slash parent)
 
-abbrev pub patches_nothing : List ActiveFile → ActiveFile → ItemFile → Bool
-patches_nothing all active file = option_map_or (λ name. not (is_there (giving (key_given file.side) name all))) (patched active file) false
+-- a patch of what isn't there
+abbrev pub patches_nothing : IsGiven → ActiveFile → ItemFile → Bool
+patches_nothing given active file = option_map_or (λ name. not (given file.side name)) (patched active file) false
 
-abbrev pub patch_fault : List ActiveFile → ActiveFile → ItemFile → List ℕ → List Fault
-patch_fault all active file parent =
-    if patches_elsewhere active file parent || patches_nothing all active file then fault code.PatchTarget active.file.path parent ∷ [] else []
+abbrev pub patch_at : IsGiven → ActiveFile → ItemFile → List ℕ → Option Fault
+patch_at given active file parent =
+    fault_if (patches_elsewhere active file parent || patches_nothing given active file) (fault code.PatchTarget active.file.path parent)
 
-abbrev pub patch_target : List ActiveFile → ActiveFile → List Fault
-patch_target all active = option_map_or (λ file. option_map_or (patch_fault all active file) file.parent []) (item_of active) []
+abbrev pub patch_fault : IsGiven → ActiveFile → Option Fault
+patch_fault given active = option_and_then (λ file. option_and_then (patch_at given active file) file.parent) (item_of active)
 
--- the faults that are looked at first
-abbrev pub file_faults : List StoredFile → List (List ℕ) → List Fault
-file_faults files enabled =
-    let active = active_files files enabled in
-    sizes files enabled active
-    ++ flat_map (extension_unknown active) enabled
-    ++ key_clashes active
-    ++ taken (codes "extension") (extension_numbers active)
-    ++ taken (codes "category") (category_numbers active)
-    ++ flat_map (patch_target active) active
+abbrev pub patch_faults : List ActiveFile → List Fault
+patch_faults active = filter_map (patch_fault (is_given active)) active
 
 -- ---- types
 
--- the type that a listed type narrows: as the last dictionary says that says it, the empty name where none does
-abbrev pub narrowed : Looks → List ℕ → List ℕ
-narrowed b name = unwrap_or (first_said (reverse (b.kinds name))) []
-  where
-    first_said : List TypeEntry → Option (List ℕ)
-    first_said [] = None
-    first_said (entry ∷ entries) = option_or entry.parent (first_said entries)
+-- the dictionary entries of each type, by layer
+abbrev pub Kinds : Type 0
+Kinds = List ℕ → List TypeEntry
 
--- the listed types, in byte order
+-- the type that the last of these entries names that names one
+abbrev pub last_parent : List TypeEntry → Option (List ℕ)
+last_parent [] = None
+last_parent (entry ∷ entries) = option_or (last_parent entries) entry.parent
+
+-- the type that a listed type narrows, the empty name where no dictionary says one
+abbrev pub narrowed : Kinds → List ℕ → List ℕ
+narrowed kinds name = unwrap_or (last_parent (kinds name)) []
+
+-- a way ends at a base type, and at a name that isn't listed
+abbrev pub is_end : Kinds → List ℕ → Bool
+is_end kinds name = is_some (base_of name) || not (is_there (kinds name))
+
+-- where the way of a type is after so many moves, or its end
+unfoldable pub moved : ℕ → Kinds → List ℕ → List ℕ
+moved zero kinds name = name
+moved (suc moves) kinds name = if is_end kinds name then name else moved moves kinds (narrowed kinds name)
+
+abbrev pub max_moves : ℕ
+max_moves = 32
+
+abbrev pub type_subject : List ℕ → List ℕ
+type_subject name = labelled (codes "type") name
+
+-- a way that comes to a name which isn't listed, or which it would move on from
+abbrev pub way_fault : Kinds → List ℕ → List ℕ → Fault
+way_fault kinds name last =
+    if is_there (kinds last) then fault code.TypeCycle (type_subject name) [] else fault code.TypeUnknown (type_subject name) last
+
+-- a type that reaches no base type within these moves
+abbrev pub type_fault_at : Kinds → List ℕ → List ℕ → Option Fault
+type_fault_at kinds name last = fault_if (not (is_some (base_of last))) (way_fault kinds name last)
+
+abbrev pub type_fault : Kinds → List ℕ → Option Fault
+type_fault kinds name = type_fault_at kinds name (moved max_moves kinds name)
+
+abbrev pub types_of : ActiveFile → List (List ℕ)
+types_of file = map (λ entry. entry.name) (types_said file.file.raw)
+
+-- the types that dictionaries list, each as often as it is listed
 abbrev pub listed_types : List ActiveFile → List (List ℕ)
-listed_types active = first_of_each (λ name. name) (flat_map (λ file. map (λ entry. entry.name) (types_said file.file.raw)) active)
+listed_types active = flat_map types_of active
+
+-- ---- all
+
+-- the faults that are looked at first
+abbrev pub file_faults : List StoredFile → List (List ℕ) → List ActiveFile → List Fault
+file_faults files enabled active =
+    limits_passed files enabled (length (active_keys active))
+    ++ (unknown_extensions enabled active
+    ++ (key_clashes active
+    ++ (uids_taken active
+    ++ patch_faults active)))
+
+-- those that are looked at where there are none of the first
+abbrev pub type_faults : Kinds → List ActiveFile → List Fault
+type_faults kinds active = filter_map (type_fault kinds) (listed_types active)
+
+abbrev pub own_fault : List StoredFile → List (List ℕ) → Option Fault
+own_fault files enabled =
+    let active = active_files files enabled in
+    option_or (least_fault (file_faults files enabled active)) (least_fault (type_faults (looks files enabled).kinds active))

@@ -1,6 +1,7 @@
 pub mod Active
 pub mod After
 pub mod BundleFaults
+pub mod OwnFaults
 pub mod FilesLook
 pub mod Groups
 pub mod Index

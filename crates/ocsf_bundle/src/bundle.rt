@@ -6,6 +6,7 @@ ghost use Rattle.ocsf_bundle.specs.Active.{active_files};
 ghost use Rattle.ocsf_bundle.specs.Keys.{active_keys};
 ghost use Rattle.ocsf_bundle.specs.Edits.{IsValidChange};
 ghost use Rattle.ocsf_bundle.specs.After.{IsAfter};
+ghost use Rattle.ocsf_bundle.specs.BundleFaults.{own_fault};
 ghost use Rattle.ocsf_bundle.specs.FilesLook.{looks};
 ghost use Rattle.ocsf_bundle.specs.Looks.{look};
 ghost use Rattle.ocsf_bundle.specs.Shown.{shown, IsShownOrdered};
@@ -17,10 +18,11 @@ use crate::draft::{enabled_after, files_after};
 use crate::edit::Edit;
 use crate::index::{Index, index_of};
 use crate::look::found;
+use crate::own_fault::own_fault;
 use crate::shows::Shows;
 use crate::stored::StoredFile;
 use ocsf_raw::RawError;
-use ocsf_tree::{Key, Row, Shared, Text};
+use ocsf_tree::{Fault, Key, Row, Shared, Text};
 use std::alloc::{AllocError, Global};
 use std::marker::Model;
 
@@ -128,6 +130,21 @@ impl Bundle {
         ensures { option_copied result ≡ slice_get (active_keys (active_files self.now.files self.now.enabled)) k }
     {
         key_at(self.index.keys.as_slice(), k)
+    }
+
+    /// The least of the faults that the files have as a whole: by their number, their keys and numbers,
+    /// and their patches, and, where there are none of these, by the types of their dictionaries.
+    pub fn own_fault(&self) -> Result<Option<Fault>, AllocError>
+        ensures { IfOk result (λ fault. fault ≡ own_fault self.now.files self.now.enabled) }
+    {
+        let alloc = self.files.allocator();
+        let fault = own_fault(
+            alloc,
+            self.files.as_slice(),
+            self.enabled.as_slice(),
+            &self.index,
+        )?;
+        Ok(fault)
     }
 }
 

@@ -10,15 +10,21 @@ mod edit;
 mod edit_laws;
 #[cfg(test)]
 mod edit_tests;
+mod faults;
 mod groups;
 mod index;
+mod key_faults;
 mod keys;
 mod look;
 #[cfg(test)]
 mod look_tests;
 mod named_map;
+mod numbers;
+mod own_fault;
+mod patch_fault;
 mod shows;
 mod stored;
+mod type_fault;
 
 pub use bundle::Bundle;
 pub use cells::{Cell, Part};

@@ -18,7 +18,7 @@ use crate::stored::ActiveFile;
 use ocsf_raw::{CategoryEntry, DictEntry, ExtFile, ItemFile, RawFile, below, folder};
 use ocsf_tree::{Side, find_by_name};
 
-fn item_of(file: &ActiveFile) -> Option<&ItemFile>
+pub fn item_of(file: &ActiveFile) -> Option<&ItemFile>
     ensures { option_copied result ≡ item_of file.now }
 {
     match &file.file.get().raw {
@@ -163,7 +163,7 @@ pub fn nth_part<'a>(files: &'a [ActiveFile], cell: &Cell, k: usize) -> Option<Pa
     None
 }
 
-fn groups_by_side(sides: &Sides, side: Side) -> &[Group]
+pub fn groups_by_side(sides: &Sides, side: Side) -> &[Group]
     ensures { result.now ≡ groups_by_side side sides.now }
 {
     match side {
