@@ -63,11 +63,11 @@ pub kept_lesser : (found : ℕ → Option (List ℕ)) (x : Numbered) → has_les
 kept_lesser found x h number name =
     ⊎_elim
     (λ (e : x.number ≡ number).
-      after_kept (found number) x.name name (ap (λ n. has_lesser (found n) x.name) (sym e) ∙ h)
-      ∙ ap (λ b. has_lesser (found number) name || b) (sym (before_as number name x true (eq-eqb x.number number e))))
+    after_kept (found number) x.name name (ap (λ n. has_lesser (found n) x.name) (sym e) ∙ h)
+    ∙ ap (λ b. has_lesser (found number) name || b) (sym (before_as number name x true (eq-eqb x.number number e))))
     (λ (ne : x.number ≢ number).
-      or_false (has_lesser (found number) name)
-      ∙ ap (λ b. has_lesser (found number) name || b) (sym (before_as number name x false (ne_eqb x.number number ne))))
+    or_false (has_lesser (found number) name)
+    ∙ ap (λ b. has_lesser (found number) name || b) (sym (before_as number name x false (ne_eqb x.number number ne))))
     (cases_eq x.number number)
 
 apart : (a b : ℕ) → a ≢ b → is_eq (nat_cmp a b) ≡ false
@@ -86,13 +86,13 @@ pub put_lesser : (found : ℕ → Option (List ℕ)) (x : Numbered) → has_less
 put_lesser found x h number name =
     ⊎_elim
     (λ (e : x.number ≡ number).
-      ap (λ b. has_lesser (cond b (Some x.name) (found number)) name) (tied x.number number e)
-      ∙ before_kept (found number) x.name name (ap (λ n. has_lesser (found n) x.name) (sym e) ∙ h)
-      ∙ ap (λ b. has_lesser (found number) name || b) (sym (before_as number name x true (eq-eqb x.number number e))))
+    ap (λ b. has_lesser (cond b (Some x.name) (found number)) name) (tied x.number number e)
+    ∙ before_kept (found number) x.name name (ap (λ n. has_lesser (found n) x.name) (sym e) ∙ h)
+    ∙ ap (λ b. has_lesser (found number) name || b) (sym (before_as number name x true (eq-eqb x.number number e))))
     (λ (ne : x.number ≢ number).
-      ap (λ b. has_lesser (cond b (Some x.name) (found number)) name) (apart x.number number ne)
-      ∙ or_false (has_lesser (found number) name)
-      ∙ ap (λ b. has_lesser (found number) name || b) (sym (before_as number name x false (ne_eqb x.number number ne))))
+    ap (λ b. has_lesser (cond b (Some x.name) (found number)) name) (apart x.number number ne)
+    ∙ or_false (has_lesser (found number) name)
+    ∙ ap (λ b. has_lesser (found number) name || b) (sym (before_as number name x false (ne_eqb x.number number ne))))
     (cases_eq x.number number)
 
 -- one item more

@@ -23,8 +23,8 @@ module _ {X : Type 0} (f : X → Option Fault) (xs : List X) where
   noted start least next i x h at is so_far =
       ap (λ o. left_of o (i + 1)) is
       ∙ sym (at_drop_more (λ ys. least_from least (filter_map f ys)) xs i x h
-        ∙ ap (λ y. least_from least (filter_map f (y ∷ drop (i + 1) xs))) (sym at)
-        ∙ least_from-cons least (f x) (filter_map f (drop (i + 1) xs)))
+      ∙ ap (λ y. least_from least (filter_map f (y ∷ drop (i + 1) xs))) (sym at)
+      ∙ least_from-cons least (f x) (filter_map f (drop (i + 1) xs)))
       ∙ so_far
 
   pub all_noted : (start least : Option Fault) (i : ℕ) → length xs ≤ i → left_of least i ≡ start → least ≡ start
@@ -39,7 +39,7 @@ noted_each f g xs start least next i x h at is so_far =
     ∙ sym (least_from-append least (filter_map f (g x)) (filter_map f rest))
     ∙ ap (least_from least) (sym (filter_map-append f (g x) rest))
     ∙ sym (at_drop_more (λ ys. least_from least (filter_map f (flat_map g ys))) xs i x h
-      ∙ ap (λ y. least_from least (filter_map f (g y ++ rest))) (sym at))
+    ∙ ap (λ y. least_from least (filter_map f (g y ++ rest))) (sym at))
     ∙ so_far
 
 -- four lists of faults end to end

@@ -38,7 +38,7 @@ filter_map-map f g (x ∷ xs) = ap (cons_option (f (g x))) (filter_map-map f g x
 unknown-index_of : (enabled : List (List ℕ)) (active : List ActiveFile) → filter_map (unknown_in (index_of active).extensions) enabled ≡ unknown_extensions enabled active
 unknown-index_of enabled active =
     let same : unknown_in (index_of active).extensions ≡ extension_unknown active =
-        λ i name. fault_if (not (is_there (group_at-groups_of extension_given active name i))) (fault code.ExtensionUnknown name []) in
+    λ i name. fault_if (not (is_there (group_at-groups_of extension_given active name i))) (fault code.ExtensionUnknown name []) in
     ap (λ f. filter_map f enabled) same
 
 clashes-groups_of : (label : List ℕ) (key : ActiveFile → Option (List ℕ)) (active : List ActiveFile) → clashes_in label (groups_of key active) ≡ clashes label key active
@@ -47,9 +47,9 @@ clashes-groups_of label key active = filter_map-map (clash_in label) (group key 
 key_clashes-index_of : (active : List ActiveFile) → key_clashes_in (index_of active) ≡ key_clashes active
 key_clashes-index_of active =
     λ i. clashes-groups_of (side_text side.Class) (key_given side.Class) active i
-      ++ clashes-groups_of (side_text side.Object) (key_given side.Object) active i
-      ++ clashes-groups_of (codes "profile") profile_given active i
-      ++ clashes-groups_of (codes "extension") extension_given active i
+    ++ clashes-groups_of (side_text side.Object) (key_given side.Object) active i
+    ++ clashes-groups_of (codes "profile") profile_given active i
+    ++ clashes-groups_of (codes "extension") extension_given active i
 
 given-index_of : (active : List ActiveFile) → given_in (index_of active).items ≡ is_given active
 given-index_of active = λ i s name. is_there (side_group (λ t. given_by (by.Item t)) s name active i)
@@ -86,9 +86,9 @@ limits_rank files enabled items =
     let d = too_many (codes "items") max_items items in
     filter_map-all P (IsOfRank 10) (λ passed. passed) (λ o h. h) (a ∷ b ∷ c ∷ d ∷ [])
     (All-cons P a (b ∷ c ∷ d ∷ []) (too_many_rank (codes "files") max_files (length files))
-      (All-cons P b (c ∷ d ∷ []) (too_many_rank (codes "bytes") max_bytes (sum_by (λ file. length file.text) files))
-        (All-cons P c (d ∷ []) (too_many_rank (codes "extensions") max_extensions (length enabled))
-          (All-cons P d [] (too_many_rank (codes "items") max_items items) (All-nil P)))))
+    (All-cons P b (c ∷ d ∷ []) (too_many_rank (codes "bytes") max_bytes (sum_by (λ file. length file.text) files))
+    (All-cons P c (d ∷ []) (too_many_rank (codes "extensions") max_extensions (length enabled))
+    (All-cons P d [] (too_many_rank (codes "items") max_items items) (All-nil P)))))
 
 unknown_rank : (enabled : List (List ℕ)) (active : List ActiveFile) → All (IsOfRank 11) (unknown_extensions enabled active)
 unknown_rank enabled active = each_rank 11 (extension_unknown active) (λ name. if_rank 11 (not (is_there (giving extension_given name active))) _ refl) enabled
@@ -109,8 +109,8 @@ key_clashes_rank active =
     let d = clashes (codes "extension") extension_given active in
     All-append (IsOfRank 12) (a ++ b ++ c) d
     (All-append (IsOfRank 12) (a ++ b) c
-      (All-append (IsOfRank 12) a b (clashes_rank (side_text side.Class) (key_given side.Class) active) (clashes_rank (side_text side.Object) (key_given side.Object) active))
-      (clashes_rank (codes "profile") profile_given active))
+    (All-append (IsOfRank 12) a b (clashes_rank (side_text side.Class) (key_given side.Class) active) (clashes_rank (side_text side.Object) (key_given side.Object) active))
+    (clashes_rank (codes "profile") profile_given active))
     (clashes_rank (codes "extension") extension_given active)
 
 numbers_rank : (label : List ℕ) (all : List Numbered) → All (IsOfRank 13) (numbers_taken label all)
@@ -153,14 +153,14 @@ in_turn : (a b c d e : List Fault) → All (IsOfRank 10) a → All (IsOfRank 11)
 in_turn a b c d e ra rb rc rd re =
     let past_c : All (IsAbove 12) (d ++ e) = both_above 12 d e (above 12 13 d (omega arith) rd) (above 12 14 e (omega arith) re) in
     let past_b : All (IsAbove 11) (c ++ (d ++ e)) =
-        both_above 11 c (d ++ e) (above 11 12 c (omega arith) rc) (both_above 11 d e (above 11 13 d (omega arith) rd) (above 11 14 e (omega arith) re)) in
+    both_above 11 c (d ++ e) (above 11 12 c (omega arith) rc) (both_above 11 d e (above 11 13 d (omega arith) rd) (above 11 14 e (omega arith) re)) in
     let past_a : All (IsAbove 10) (b ++ (c ++ (d ++ e))) =
-        both_above 10 b (c ++ (d ++ e)) (above 10 11 b (omega arith) rb)
-        (both_above 10 c (d ++ e) (above 10 12 c (omega arith) rc) (both_above 10 d e (above 10 13 d (omega arith) rd) (above 10 14 e (omega arith) re))) in
+    both_above 10 b (c ++ (d ++ e)) (above 10 11 b (omega arith) rb)
+    (both_above 10 c (d ++ e) (above 10 12 c (omega arith) rc) (both_above 10 d e (above 10 13 d (omega arith) rd) (above 10 14 e (omega arith) re))) in
     least_fault-by_rank 10 a (b ++ (c ++ (d ++ e))) (low 10 a ra) past_a
     ∙ ap (option_or (least_fault a)) (least_fault-by_rank 11 b (c ++ (d ++ e)) (low 11 b rb) past_b
-      ∙ ap (option_or (least_fault b)) (least_fault-by_rank 12 c (d ++ e) (low 12 c rc) past_c
-        ∙ ap (option_or (least_fault c)) (least_fault-by_rank 13 d e (low 13 d rd) (above 13 14 e (omega arith) re))))
+    ∙ ap (option_or (least_fault b)) (least_fault-by_rank 12 c (d ++ e) (low 12 c rc) past_c
+    ∙ ap (option_or (least_fault c)) (least_fault-by_rank 13 d e (low 13 d rd) (above 13 14 e (omega arith) re))))
 
 or_assoc : {X : Type 0} (a b c : Option X) → option_or (option_or a b) c ≡ option_or a (option_or b c)
 or_assoc None b c = refl
@@ -181,9 +181,9 @@ own_fault-index_of files enabled =
     let rest = option_or (least_fault (unknown_extensions enabled active)) (option_or (least_fault (key_clashes active)) (option_or (least_fault (uids_taken active)) (least_fault (patch_faults active)))) in
     let types = least_fault (type_faults (looks files enabled).kinds active) in
     let found : own_fault_in files enabled (index_of active) ≡ option_or (least_fault limits) (option_or rest types) =
-        λ i. option_or (least_fault (limits_passed files enabled (length (keys-index_of active i))))
-        (option_or (file_fault-index_of enabled active i) (least_fault (type_faults (kinds-index_of files enabled i) active))) in
+    λ i. option_or (least_fault (limits_passed files enabled (length (keys-index_of active i))))
+    (option_or (file_fault-index_of enabled active i) (least_fault (type_faults (kinds-index_of files enabled i) active))) in
     found
     ∙ sym (or_assoc (least_fault limits) rest types)
     ∙ ap (λ o. option_or o types) (sym (in_turn limits (unknown_extensions enabled active) (key_clashes active) (uids_taken active) (patch_faults active)
-      (limits_rank files enabled (length (active_keys active))) (unknown_rank enabled active) (key_clashes_rank active) (uids_rank active) (patches_rank active)))
+    (limits_rank files enabled (length (active_keys active))) (unknown_rank enabled active) (key_clashes_rank active) (uids_rank active) (patches_rank active)))

@@ -166,12 +166,12 @@ patch_faults active = filter_map (patch_fault (is_given active)) active
 abbrev pub Kinds : Type 0
 Kinds = List ℕ → List TypeEntry
 
--- the type that the last of these entries names that names one
+-- the type that is named by the last of these entries to name one
 abbrev pub last_parent : List TypeEntry → Option (List ℕ)
 last_parent [] = None
 last_parent (entry ∷ entries) = option_or (last_parent entries) entry.parent
 
--- the type that a listed type narrows, the empty name where no dictionary says one
+-- the type that a listed type narrows, the empty name where no dictionary names one
 abbrev pub narrowed : Kinds → List ℕ → List ℕ
 narrowed kinds name = unwrap_or (last_parent (kinds name)) []
 
@@ -179,10 +179,10 @@ narrowed kinds name = unwrap_or (last_parent (kinds name)) []
 abbrev pub is_end : Kinds → List ℕ → Bool
 is_end kinds name = is_some (base_of name) || not (is_there (kinds name))
 
--- where the way of a type is after so many moves, or its end
-unfoldable pub moved : ℕ → Kinds → List ℕ → List ℕ
-moved zero kinds name = name
-moved (suc moves) kinds name = if is_end kinds name then name else moved moves kinds (narrowed kinds name)
+-- where the way of a type is after so many moves, or where it ends before
+unfoldable pub reached : ℕ → Kinds → List ℕ → List ℕ
+reached zero kinds name = name
+reached (suc moves) kinds name = if is_end kinds name then name else reached moves kinds (narrowed kinds name)
 
 abbrev pub max_moves : ℕ
 max_moves = 32
@@ -200,7 +200,7 @@ abbrev pub type_fault_at : Kinds → List ℕ → List ℕ → Option Fault
 type_fault_at kinds name last = fault_if (not (is_some (base_of last))) (way_fault kinds name last)
 
 abbrev pub type_fault : Kinds → List ℕ → Option Fault
-type_fault kinds name = type_fault_at kinds name (moved max_moves kinds name)
+type_fault kinds name = type_fault_at kinds name (reached max_moves kinds name)
 
 abbrev pub types_of : ActiveFile → List (List ℕ)
 types_of file = map (λ entry. entry.name) (types_said file.file.raw)

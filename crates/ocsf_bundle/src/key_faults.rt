@@ -11,11 +11,7 @@ use crate::index::Index;
 use ocsf_tree::{Code, Fault, Text};
 use std::alloc::{AllocError, Global};
 
-fn unknown_in(
-    alloc: Global,
-    extensions: &[Group],
-    name: &Text,
-) -> Result<Option<Fault>, AllocError>
+fn unknown_in(alloc: Global, extensions: &[Group], name: &Text) -> Result<Option<Fault>, AllocError>
     requires { IsByName group_name extensions.now }
     ensures { IfOk result (λ made. made ≡ unknown_in extensions.now name.now) }
 {

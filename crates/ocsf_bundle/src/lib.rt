@@ -21,6 +21,8 @@ mod look_tests;
 mod named_map;
 mod numbers;
 mod own_fault;
+#[cfg(test)]
+mod own_fault_tests;
 mod patch_fault;
 mod shows;
 mod stored;

@@ -19,8 +19,11 @@ use ocsf_tree::{Code, Fault, Shared, Text};
 use std::alloc::{AllocError, Global};
 
 const MAX_FILES: usize = 4096;
+
 const MAX_BYTES: usize = 16777216;
+
 const MAX_EXTENSIONS: usize = 64;
+
 const MAX_ITEMS: usize = 4096;
 
 /// Whether all texts together have more bytes than that.
@@ -70,7 +73,8 @@ fn limit_passed(
     Ok(least)
 }
 
-/// The least fault of the files but for the limits. What has a fault of a lower rank is looked at no further.
+/// The least fault of the files where the limits are kept. Where there is one of a rank, those of later ranks
+/// aren't looked for.
 fn file_fault(
     alloc: Global,
     enabled: &[Text],

@@ -70,12 +70,7 @@ fn parent_of(entry: &TypeEntry) -> &str
     }
 }
 
-fn way_fault(
-    alloc: Global,
-    code: Code,
-    name: &str,
-    last: &str,
-) -> Result<Option<Fault>, AllocError>
+fn way_fault(alloc: Global, code: Code, name: &str, last: &str) -> Result<Option<Fault>, AllocError>
     ensures { IfOk result (λ made. made ≡ Some (fault code (type_subject name.now) last.now)) }
 {
     let subject = labelled(alloc, "type", name)?;

@@ -9,5 +9,5 @@ pub returns : goal.returns
 returns c =
     let index = c.args.index.now in
     let all = noted_in_turn (clashes_in (side_text side.Class) index.items.classes) (clashes_in (side_text side.Object) index.items.objects)
-        (clashes_in (codes "profile") index.profiles) (clashes_in (codes "extension") index.extensions) in
+    (clashes_in (codes "profile") index.profiles) (clashes_in (codes "extension") index.extensions) in
     cc (all, c.in_ok-least.ensures, c.in_ok-least-2.ensures, c.in_ok-least-3.ensures, c.in_ok-least-4.ensures)
