@@ -6,7 +6,6 @@ use Rattle.std.proofs.lemmas.List.Elements.{filter-append}
 use Rattle.std.proofs.lemmas.List.Folds.{list_any-append}
 use Rattle.ocsf_tree.specs.declared.key.Side.{Side}
 use Rattle.ocsf_tree.specs.declared.key.Side.TheVariants.{Class, Object}
-use Rattle.ocsf_tree.specs.declared.tree.Tree.TheVariants as tree
 use Rattle.ocsf_tree.specs.CompactText.{text, quoted_text, member_text, object_text}
 use Rattle.ocsf_tree.proofs.Joined.{text-Members, text-Words}
 use Rattle.ocsf_schema.specs.declared.records.Item.{Item}

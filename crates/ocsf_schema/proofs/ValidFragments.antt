@@ -1,11 +1,10 @@
 -- Fragments are valid trees.
-use Rattle.std.proofs.Common.{◌≡◌, ℕ, zero, suc, ◌+◌, ◌<◌, ◌^◌, List, [], ◌∷◌, ◌++◌, Bool, true, false, ◌&&◌, length, get_or, map, Option, Some, None, IfSome, codes, pos, All, refl, sym, ◌∙◌, ap, subst, arith, rules}
+use Rattle.std.proofs.Common.{◌≡◌, ℕ, zero, suc, ◌<◌, ◌^◌, List, [], ◌∷◌, Bool, true, false, ◌&&◌, get_or, map, Option, Some, None, IfSome, codes, pos, All, refl, ap, arith, rules}
 use Rattle.std.specs.declared.cmp.Ordering.{Ordering}
-use Rattle.std.specs.declared.cmp.Ordering.TheVariants.{Less, Equal, Greater}
 use Rattle.std.specs.Ordering.{is_lt, match_ordering}
 use Rattle.std.specs.FinMap.Entries.{below_all}
 use Rattle.std.proofs.lemmas.Bool.{lt-ltb}
-use Rattle.ocsf_tree.specs.ByName.{text_cmp, named, is_by_name, IsByName}
+use Rattle.ocsf_tree.specs.ByName.{text_cmp, named, IsByName}
 use Rattle.ocsf_tree.specs.Data.{data_of, members_data}
 use Rattle.ocsf_tree.specs.Valid.{IsValid, IsValidList, IsValidMembers, is_valid, is_before, members_valid}
 use Rattle.ocsf_tree.proofs.NameLists.{head_below, tail_by_name, below_at}
@@ -16,8 +15,7 @@ use Rattle.ocsf_tree.specs.declared.tree.Member.{Member}
 use Rattle.ocsf_tree.specs.declared.attribute.EnumMember.{EnumMember}
 use Rattle.ocsf_schema.specs.declared.records.Attr.{Attr}
 use Rattle.ocsf_schema.specs.declared.records.Item.{Item}
-use Rattle.ocsf_schema.specs.declared.records.Target.{Target}
-use Rattle.ocsf_schema.specs.Print.{Field, shown, present, object_of, words, number, flag, texts, enum_member_tree, enum_member, enumeration, requirement_text, type_text, object_key, attribute_tree, attribute_member, constraints, fragment_tree}
+use Rattle.ocsf_schema.specs.Print.{Field, present, object_of, words, number, flag, texts, enum_member_tree, enum_member, enumeration, requirement_text, type_text, object_key, attribute_tree, attribute_member, constraints, fragment_tree}
 
 both : (a b : Bool) → a ≡ true → b ≡ true → (a && b) ≡ true
 both true b p q = q

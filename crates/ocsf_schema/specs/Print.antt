@@ -1,16 +1,12 @@
 -- The printed schema: one compact JSON object and a line feed. A member whose value isn't given isn't printed.
-use Rattle.std.specs.Prelude.{ℕ, List, [], ◌∷◌, ◌++◌, Bool, true, false, filter, map, option_map, codes, pos, Option, Some, None}
+use Rattle.std.specs.Prelude.{ℕ, List, [], ◌∷◌, ◌++◌, Bool, true, false, map, option_map, codes, pos, Option, Some, None}
 use Rattle.ocsf_tree.specs.declared.tree.Tree.{Tree}
 use Rattle.ocsf_tree.specs.declared.tree.Tree.TheVariants as tree
 use Rattle.ocsf_tree.specs.declared.tree.Member.{Member}
-use Rattle.ocsf_tree.specs.declared.key.Side.{Side}
-use Rattle.ocsf_tree.specs.declared.key.Side.TheVariants.{Class, Object}
-use Rattle.ocsf_tree.specs.declared.key.Key.{Key}
 use Rattle.ocsf_tree.specs.declared.attribute.EnumMember.{EnumMember}
 use Rattle.ocsf_tree.specs.declared.attribute.Requirement.{Requirement}
 use Rattle.ocsf_tree.specs.declared.attribute.Requirement.TheVariants.{Required, Recommended, Optional}
 use Rattle.ocsf_tree.specs.CompactText.{text}
-use Rattle.ocsf_tree.specs.Key.{side_text}
 use Rattle.ocsf_schema.specs.declared.records.Attr.{Attr}
 use Rattle.ocsf_schema.specs.declared.records.Item.{Item}
 use Rattle.ocsf_schema.specs.declared.records.Target.{Target}

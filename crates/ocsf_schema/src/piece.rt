@@ -22,14 +22,16 @@ impl Model for Piece {
 
     ghost Value = { Item };
 
+    ghost use Rattle.ocsf_schema.specs.Lookups.{IsInOrder};
     ghost use Rattle.ocsf_schema.specs.Print.{fragment};
 
     ghost view = { λ piece. piece.item };
 
-    ghost invariant = { λ piece. piece.text ≡ fragment piece.item };
+    ghost invariant = { λ piece. (piece.text ≡ fragment piece.item) × IsInOrder piece.item };
 }
 
 impl Piece {
+    ghost use Rattle.ocsf_schema.specs.Lookups.{IsInOrder};
     ghost use Rattle.ocsf_schema.specs.Print.{fragment};
 
     /// Prints the fragment of the item, which is one step of compiling. No other call makes a piece.
@@ -50,7 +52,8 @@ impl Piece {
     }
 
     pub fn item(&self) -> &Item
-        ensures { result.now ≡ self.now }
+        ensures item { result.now ≡ self.now }
+        ensures order { IsInOrder self.now }
     {
         &self.item
     }

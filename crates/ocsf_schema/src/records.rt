@@ -1,5 +1,5 @@
 // The compiled records, as the layers above the compiler read them.
-use ocsf_tree::{EnumMember, Key, Requirement, Row, Span, Text, Tree};
+use ocsf_tree::{EnumMember, Key, Named, Requirement, Row, Span, Text, Tree};
 
 /// The built-in types that every type leads to.
 #[derive(Clone, Copy, Debug, PartialEq, Eq)]
@@ -69,6 +69,14 @@ pub struct Kind {
     pub limits: Row<Limit>,
 }
 
+impl Named for Kind {
+    ghost name_of = { λ kind. kind.name };
+
+    fn name(&self) -> &str {
+        self.name.as_str()
+    }
+}
+
 /// What the type of an attribute leads to.
 #[derive(Debug, Drop)]
 pub enum Target {
@@ -96,6 +104,14 @@ pub struct Attr {
     pub sibling: Option<Text>,
     /// The members of the enumeration, strictly by key.
     pub members: Row<EnumMember>,
+}
+
+impl Named for Attr {
+    ghost name_of = { λ attr. attr.name };
+
+    fn name(&self) -> &str {
+        self.name.as_str()
+    }
 }
 
 /// A compiled class or object.

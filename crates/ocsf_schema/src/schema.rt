@@ -1,15 +1,20 @@
 // A compiled schema.
-ghost use Rattle.std.specs.Prelude.{◌≡◌, IfOk, OnOk, OnErr};
+ghost use Rattle.std.specs.Prelude.{◌≡◌, IfOk, IfSome, OnOk, OnErr, is_some, length};
 ghost use Rattle.std.specs.Io.KnownBytes.{Appends};
 ghost use Rattle.ocsf_edge.specs.Faults.{HasCause};
 ghost use Rattle.ocsf_edge.specs.Sink.{AppendsPrefix};
-ghost use Rattle.ocsf_tree.specs.ByName.{IsByName};
+ghost use Rattle.std.specs.Option.{option_copied};
+ghost use Rattle.ocsf_tree.specs.ByName.{IsByName, at_name};
+ghost use Rattle.ocsf_tree.specs.Lookup.{member_at};
 ghost use Rattle.ocsf_tree.specs.Valid.{IsValid};
 
-use crate::SchemaParts;
+use crate::lookup::{classes_by_uid, find_by_key};
 use crate::printing::schema_bytes;
+use crate::{Attr, Item, Kind, Piece, SchemaParts};
 use ocsf_edge::{Failed, Sink, write_all};
+use ocsf_tree::{Key, Shared, find_by_name};
 use std::alloc::{AllocError, Global};
+use std::collections::BTreeMap;
 use std::marker::Model;
 
 /// A compiled schema with its print; contracts see its parts.
@@ -17,6 +22,7 @@ use std::marker::Model;
 pub struct Schema {
     parts: SchemaParts,
     text: Vec<u8>,
+    classes: BTreeMap<u64, Shared<Piece>>,
 }
 
 impl Model for Schema {
@@ -29,21 +35,31 @@ impl Model for Schema {
 
     ghost coded = { Prim.hlevel (codes, tree.the_row.coded) };
 
+    ghost use Rattle.std.specs.Prelude.{ℕ};
+    ghost use Rattle.std.specs.BTreeMap.{get};
+    ghost use Rattle.std.specs.Ordering.{nat_cmp};
+    ghost use Rattle.ocsf_tree.specs.ByName.{IsByName};
+    ghost use Rattle.ocsf_tree.specs.Valid.{IsValid};
+    ghost use Rattle.ocsf_schema.specs.Lookups.{IsByKey, class_at};
     ghost use Rattle.ocsf_schema.specs.Schema.{schema_text};
 
     ghost view = { λ schema. schema.parts };
 
-    ghost invariant = { λ schema. schema.text.items ≡ schema_text schema.parts };
+    ghost invariant = { λ schema. (schema.text.items ≡ schema_text schema.parts)
+        × ((uid : ℕ) → get nat_cmp schema.classes uid ≡ class_at uid schema.parts.pieces)
+        × IsByKey schema.parts.pieces
+        × IsByName (λ kind. kind.name) schema.parts.kinds
+        × IsValid schema.parts.profiles };
 }
 
 impl Schema {
-    ghost use Rattle.ocsf_tree.specs.Key.{key_text};
+    ghost use Rattle.ocsf_schema.specs.Lookups.{IsByKey, item_at, class_at, IsInOrder};
     ghost use Rattle.ocsf_schema.specs.Schema.{schema_text};
 
     /// The schema that holds these parts. The five trees are what the members of their names hold in the printed
     /// schema.
     pub fn of(alloc: Global, parts: SchemaParts) -> Result<Schema, AllocError>
-        requires pieces { IsByName (λ item. key_text item.key) parts.pieces }
+        requires pieces { IsByKey parts.pieces }
         requires kinds { IsByName (λ kind. kind.name) parts.kinds }
         requires categories { IsValid parts.categories }
         requires dictionary { IsValid parts.dictionary }
@@ -53,7 +69,60 @@ impl Schema {
         ensures { IfOk result (λ schema. schema ≡ parts) }
     {
         let text = schema_bytes(alloc, &parts)?;
-        Ok(Schema { parts, text })
+        let classes = classes_by_uid(alloc, parts.pieces.as_slice())?;
+        Ok(Schema {
+            parts,
+            text,
+            classes,
+        })
+    }
+
+    /// The item of that key. It takes no memory.
+    pub fn item(&self, key: &Key) -> Option<&Item>
+        ensures item { option_copied result ≡ item_at key.now self.now.pieces }
+        ensures order { IfSome result (λ item. IsInOrder item.now) }
+    {
+        find_by_key(self.parts.pieces.as_slice(), key)
+    }
+
+    /// The first by key of the classes that aren't hidden and have that number. It takes no memory.
+    pub fn class_by_uid(&self, uid: u64) -> Option<&Item>
+        ensures class { option_copied result ≡ class_at uid self.now.pieces }
+        ensures order { IfSome result (λ item. IsInOrder item.now) }
+    {
+        match self.classes.get(&uid) {
+            Some(piece) => Some(piece.get().item()),
+            None => None,
+        }
+    }
+
+    /// The attribute of that name. It takes no memory. Each item of a schema has its attributes by name.
+    pub fn attr<'a>(&'a self, item: &'a Item, name: &str) -> Option<&'a Attr>
+        requires { IsByName (λ attr. attr.name) item.now.attrs }
+        ensures { option_copied result ≡ at_name (λ attr. attr.name) name.now item.now.attrs }
+    {
+        find_by_name(item.attrs.as_slice(), name)
+    }
+
+    /// The data type of that name. It takes no memory.
+    pub fn kind(&self, name: &str) -> Option<&Kind>
+        ensures { option_copied result ≡ at_name (λ kind. kind.name) name.now self.now.kinds }
+    {
+        find_by_name(self.parts.kinds.as_slice(), name)
+    }
+
+    /// Whether there is a profile of that key. It takes no memory.
+    pub fn has_profile(&self, key: &str) -> bool
+        ensures { result ≡ is_some (member_at key.now self.now.profiles) }
+    {
+        self.parts.profiles.at(key).is_some()
+    }
+
+    /// How many bytes the printed schema has.
+    pub fn printed_len(&self) -> usize
+        ensures { result ≡ length (schema_text self.now) }
+    {
+        self.text.len()
     }
 
     /// Writes the printed schema, a compact JSON object and a line feed. After a failure a front of it was written.
