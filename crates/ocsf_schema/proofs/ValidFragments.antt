@@ -84,21 +84,21 @@ pub words_valid : (name : List ℕ) (text : Option (List ℕ)) → IsValidField 
 words_valid name None = tt
 words_valid name (Some text) = word_valid text
 
-number_valid : (name : List ℕ) (n : Option ℕ) → IfSome n (λ k. k < 2 ^ 64) → IsValidField (name, number n)
+pub number_valid : (name : List ℕ) (n : Option ℕ) → IfSome n (λ k. k < 2 ^ 64) → IsValidField (name, number n)
 number_valid name None h = tt
 number_valid name (Some k) h = whole_valid k h
   where
     whole_valid : (k : ℕ) → k < 2 ^ 64 → IsValid (tree.Whole (pos k))
     whole_valid k h = let fits = lt-ltb k (2 ^ 64) h in search (rules, the_lemmas, fits)
 
-flag_valid : (name : List ℕ) (b : Bool) → IsValidField (name, flag b)
+pub flag_valid : (name : List ℕ) (b : Bool) → IsValidField (name, flag b)
 flag_valid name true = true_valid
   where
     true_valid : IsValid (tree.Flag true)
     true_valid = search (rules, the_lemmas)
 flag_valid name false = tt
 
-words_list_valid : (list : List (List ℕ)) → IsValidList (map tree.Words list)
+pub words_list_valid : (list : List (List ℕ)) → IsValidList (map tree.Words list)
 words_list_valid [] = refl
 words_list_valid (t ∷ ts) = IsValidList-cons (tree.Words t) (map tree.Words ts) (word_valid t) (words_list_valid ts)
 
@@ -111,7 +111,7 @@ enum_member_valid m =
     object_of_valid ((codes "caption", Some (tree.Words m.caption)) ∷ (codes "description", words m.description) ∷ []) refl
     (word_valid m.caption, (words_valid (codes "description") m.description, tt))
 
-enumeration_valid : (name : List ℕ) (ms : List EnumMember) → IsByName (λ m. m.key) ms → IsValidField (name, enumeration ms)
+pub enumeration_valid : (name : List ℕ) (ms : List EnumMember) → IsByName (λ m. m.key) ms → IsValidField (name, enumeration ms)
 enumeration_valid name [] h = tt
 enumeration_valid name (m ∷ ms) h =
     object_valid (map enum_member (m ∷ ms)) (each_member_valid (λ m. m.key) enum_member_tree (m ∷ ms) h (λ k d l. enum_member_valid (get_or (m ∷ ms) k d)))
