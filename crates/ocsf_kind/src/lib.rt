@@ -11,4 +11,4 @@ mod tests;
 pub use accepted::{Which, breaks, fits_base};
 pub use kinds::{KindError, kind_of};
 pub use laws::cycles_have_no_end;
-pub use numbers::{class_uid, type_uid};
+pub use numbers::{category_uid, class_uid, type_uid};

@@ -1,5 +1,12 @@
 ghost use Rattle.std.specs.Prelude.{◌≡◌, ◌≤◌};
-ghost use Rattle.ocsf_kind.specs.Numbers.{class_uid, type_uid};
+ghost use Rattle.ocsf_kind.specs.Numbers.{category_uid, class_uid, type_uid};
+
+/// The number of a category. `extension` is the uid of the extension that gives it, 0 for core.
+pub fn category_uid(extension: u32, category: u32) -> u64
+    ensures { result ≡ category_uid extension category }
+{
+    u64::from(extension) * 100 + u64::from(category)
+}
 
 /// The number of a class. `category` is the uid written for its category, and `extension` the uid of the
 /// extension that gives the class, 0 for core.
