@@ -68,9 +68,9 @@ of_two g f r fs =
     elim (is_lt (fault_cmp f g)) as (λ (b : Bool). Contains ((if b then f else g) ∷ fs) r → Contains (g ∷ f ∷ fs) r) [
       | true ↦ λ h. Contains-append_right (g ∷ []) (f ∷ fs) r h
       | false ↦ λ h. elim (Contains-append_cases (g ∷ []) fs r h) [
-          | inl here ↦ Contains-append_left (g ∷ []) (f ∷ fs) r here
-          | inr there ↦ Contains-append_right (g ∷ f ∷ []) fs r there
-        ]
+        | inl here ↦ Contains-append_left (g ∷ []) (f ∷ fs) r here
+        | inr there ↦ Contains-append_right (g ∷ f ∷ []) fs r there
+      ]
     ]
 
 -- the least of a list that isn't empty

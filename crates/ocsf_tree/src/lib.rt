@@ -27,8 +27,8 @@ pub use equality::is_same;
 pub use fault::{Code, Fault, lesser_fault};
 pub use key::{Key, Side};
 pub use laws::{
-    every_text_reads, keys_go_by_their_texts, least_faults_are_least, places_are_ordered, prints_join,
-    prints_tell_trees_apart, reads_one_way,
+    every_text_reads, keys_go_by_their_texts, least_faults_are_least, places_are_ordered,
+    prints_join, prints_tell_trees_apart, reads_one_way,
 };
 pub use place::{Place, Step, place_order, pointer};
 pub use printer::{print, quote};
