@@ -219,11 +219,11 @@ module _ (old : List StoredFile) (changes : List Change) (i : ℕ) (c : Change) 
       ⊎_elim
       (λ (less : k < i). fine k d less)
       (λ (not_less : i ≤ k).
-        let e : i ≡ k = omega arith in
-        let there : c ≡ get_or changes k d = at ∙ get_or_default changes i c d h ∙ ap (λ j. get_or changes j d) e in
-        let one : IsChangeFine (file_after old (take i changes)) c = fine_same before (file_after old (take i changes)) same c here in
-        let two : IsChangeFine (file_after old (take k changes)) c = subst (λ (j : ℕ). IsChangeFine (file_after old (take j changes)) c) e one in
-        subst (IsChangeFine (file_after old (take k changes))) there two)
+      let e : i ≡ k = omega arith in
+      let there : c ≡ get_or changes k d = at ∙ get_or_default changes i c d h ∙ ap (λ j. get_or changes j d) e in
+      let one : IsChangeFine (file_after old (take i changes)) c = fine_same before (file_after old (take i changes)) same c here in
+      let two : IsChangeFine (file_after old (take k changes)) c = subst (λ (j : ℕ). IsChangeFine (file_after old (take j changes)) c) e one in
+      subst (IsChangeFine (file_after old (take k changes))) there two)
       (cases_lt k i)
 
   -- the first change with which something is wrong

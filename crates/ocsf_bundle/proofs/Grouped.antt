@@ -88,7 +88,7 @@ module _ (key : ActiveFile → Option (List ℕ)) where
   in_group q files = record { name = q; files = files }
 
   -- whether a key is one of those that files give
-  key_found : (q : List ℕ) (files : List ActiveFile) → at_name (λ n. n) q (filter_map key files) ≡ option_map (λ l. q) (unless_empty (giving key q files))
+  pub key_found : (q : List ℕ) (files : List ActiveFile) → at_name (λ n. n) q (filter_map key files) ≡ option_map (λ l. q) (unless_empty (giving key q files))
   key_found q [] = refl
   key_found q (x ∷ xs) =
       elim (key x) as (λ (o : Option (List ℕ)). at_name (λ n. n) q (cons_option o (filter_map key xs)) ≡ option_map (λ l. q) (unless_empty (cond (option_map_or (λ given. bytes_eq given q) o false) (x ∷ giving key q xs) (giving key q xs)))) [

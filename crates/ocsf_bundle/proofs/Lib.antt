@@ -8,9 +8,9 @@ pub mod Noted
 pub mod Ordered
 pub mod OwnFound
 pub mod Kept
+pub mod KeysInOrder
 pub mod Looked
 pub mod Orders
 pub mod EditsRead
 pub mod TypeWays
-
 pub mod CellOrders

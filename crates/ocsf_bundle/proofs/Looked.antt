@@ -122,7 +122,7 @@ found-look files (cell.Kind name) =
     ∙ shown_each Kind (kind_of name) (in_layers files)
 found-look files (cell.Category key) =
     ap (or_other key) (passed_over is_categories (part_in (cell.Category key)) (λ a e. ap (option_map show_category) (no_category key a e)) (in_layers files)
-      ∙ shown_each show_category (category_of key) (in_layers files))
+    ∙ shown_each show_category (category_of key) (in_layers files))
     ∙ built_in key (filter_map (category_of key) (in_layers files))
 found-look files (cell.Ext name) =
     ap (filter_map (part_in (cell.Ext name))) (group_at-groups_of extension_given files name)

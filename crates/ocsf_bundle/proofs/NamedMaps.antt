@@ -38,13 +38,13 @@ module _ {X : Type 0} (name : X → List ℕ) where
   not_before xs i x up h at =
       at_name-none name (name x) (take i xs)
       (λ k d below.
-        let n : length (take i xs) ≡ i = length-take-le i xs (omega arith) in
-        let in_front : k < i = omega arith in
-        let same : get_or (take i xs) k d ≡ get_or xs k d = get_or-take i xs k d in_front in
-        let less = in_order name xs k i d up in_front h in
-        let here : get_or xs i d ≡ x = get_or_default xs i d x h ∙ sym at in
-        apart_less (text_cmp (name (get_or (take i xs) k d)) (name x))
-        (ap (λ y. text_cmp (name y) (name x)) same ∙ ap (λ y. text_cmp (name (get_or xs k d)) (name y)) (sym here) ∙ less))
+      let n : length (take i xs) ≡ i = length-take-le i xs (omega arith) in
+      let in_front : k < i = omega arith in
+      let same : get_or (take i xs) k d ≡ get_or xs k d = get_or-take i xs k d in_front in
+      let less = in_order name xs k i d up in_front h in
+      let here : get_or xs i d ≡ x = get_or_default xs i d x h ∙ sym at in
+      apart_less (text_cmp (name (get_or (take i xs) k d)) (name x))
+      (ap (λ y. text_cmp (name y) (name x)) same ∙ ap (λ y. text_cmp (name (get_or xs k d)) (name y)) (sym here) ∙ less))
 
   -- one item more of a list by name is found at its name
   pub at_name-grown : (xs : List X) (i : ℕ) (x : X) → IsByName name xs → i < length xs → x ≡ get_or xs i x → (q : List ℕ) → at_name name q (take (i + 1) xs) ≡ cond (is_eq (text_cmp (name x) q)) (Some x) (at_name name q (take i xs))

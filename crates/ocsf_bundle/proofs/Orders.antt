@@ -52,24 +52,24 @@ module _ {X : Type 0} (n : X → ℕ) where
   same_order (y ∷ ys) (z ∷ zs) a b same =
       ⊎_elim
       (λ (e : n y ≡ n z).
-        let f = like-self y ys in
-        let g = like-same y z zs e in
-        let h = same y in
-        let one : y ≡ z = cc in
-        let again : (v : X) → like v (y ∷ ys) ≡ like v (y ∷ zs) = λ v. same v ∙ ap (λ x. like v (x ∷ zs)) (sym one) in
-        let rest = same_order ys zs a.1 b.1 (like-tail y ys zs again) in
-        cc)
+      let f = like-self y ys in
+      let g = like-same y z zs e in
+      let h = same y in
+      let one : y ≡ z = cc in
+      let again : (v : X) → like v (y ∷ ys) ≡ like v (y ∷ zs) = λ v. same v ∙ ap (λ x. like v (x ∷ zs)) (sym one) in
+      let rest = same_order ys zs a.1 b.1 (like-tail y ys zs again) in
+      cc)
       (⊎_elim
-        (λ (h : n y < n z).
-          let f = like-self y ys in
-          let g = none_like y (n z) (z ∷ zs) (omega arith, b.0) h in
-          let e = same y in
-          cc)
-        (λ (h : n z < n y).
-          let f = like-self z zs in
-          let g = none_like z (n y) (y ∷ ys) (omega arith, a.0) h in
-          let e = same z in
-          cc))
+      (λ (h : n y < n z).
+      let f = like-self y ys in
+      let g = none_like y (n z) (z ∷ zs) (omega arith, b.0) h in
+      let e = same y in
+      cc)
+      (λ (h : n z < n y).
+      let f = like-self z zs in
+      let g = none_like z (n y) (y ∷ ys) (omega arith, a.0) h in
+      let e = same z in
+      cc))
       (cases_order (n y) (n z))
 
   into-at_least : (m : ℕ) (x : X) (xs : List X) → m ≤ n x → AtLeast m xs → AtLeast m (into_order n x xs)
@@ -85,19 +85,19 @@ module _ {X : Type 0} (n : X → ℕ) where
   into-ascends x (y ∷ ys) a =
       ⊎_elim
       (λ (h : n y < n x).
-        let t : nat_le (n x) (n y) ≡ false = lt-leb (n x) (n y) h in
-        rw t (into-at_least (n y) x ys (omega arith) a.0, into-ascends x ys a.1))
+      let t : nat_le (n x) (n y) ≡ false = lt-leb (n x) (n y) h in
+      rw t (into-at_least (n y) x ys (omega arith) a.0, into-ascends x ys a.1))
       (λ (h : n x ≤ n y).
-        let t : nat_le (n x) (n y) ≡ true = le-leb (n x) (n y) h in
-        rw t ((h, at_least_less (n x) (n y) ys h a.0), a))
+      let t : nat_le (n x) (n y) ≡ true = le-leb (n x) (n y) h in
+      rw t ((h, at_least_less (n x) (n y) ys h a.0), a))
       (cases_lt (n y) (n x))
 
   like-swap : (v x y : X) (rest : List X) → n y < n x → like v (y ∷ x ∷ rest) ≡ like v (x ∷ y ∷ rest)
   like-swap v x y rest h =
       ⊎_elim
       (λ (e : n v ≡ n x).
-        let ne : n v ≢ n y = λ f. omega (arith, e, f) in
-        like-other v y (x ∷ rest) ne ∙ like-same v x rest e ∙ sym (like-same v x (y ∷ rest) e ∙ ap (λ l. x ∷ l) (like-other v y rest ne)))
+      let ne : n v ≢ n y = λ f. omega (arith, e, f) in
+      like-other v y (x ∷ rest) ne ∙ like-same v x rest e ∙ sym (like-same v x (y ∷ rest) e ∙ ap (λ l. x ∷ l) (like-other v y rest ne)))
       (λ (ne : n v ≢ n x). ap-front v y (x ∷ rest) rest (like-other v x rest ne) ∙ sym (like-other v x (y ∷ rest) ne))
       (cases_eq (n v) (n x))
     where
@@ -109,11 +109,11 @@ module _ {X : Type 0} (n : X → ℕ) where
   like-into v x (y ∷ ys) =
       ⊎_elim
       (λ (h : n y < n x).
-        let t : nat_le (n x) (n y) ≡ false = lt-leb (n x) (n y) h in
-        rw t (ap (λ l. cond (n v == n y) (y ∷ l) l) (like-into v x ys) ∙ like-swap v x y ys h))
+      let t : nat_le (n x) (n y) ≡ false = lt-leb (n x) (n y) h in
+      rw t (ap (λ l. cond (n v == n y) (y ∷ l) l) (like-into v x ys) ∙ like-swap v x y ys h))
       (λ (h : n x ≤ n y).
-        let t : nat_le (n x) (n y) ≡ true = le-leb (n x) (n y) h in
-        rw t refl)
+      let t : nat_le (n x) (n y) ≡ true = le-leb (n x) (n y) h in
+      rw t refl)
       (cases_lt (n y) (n x))
 
   in_order-ascends : (xs : List X) → Ascends (in_order n xs)
@@ -141,21 +141,21 @@ module _ {X : Type 0} (n : X → ℕ) where
   tie-like v x =
       ⊎_elim
       (λ (e : n v ≡ n x).
-        let a : nat_lt (n v) (n x) ≡ false = grind (arith, e) in
-        let b : nat_lt (n x) (n v) ≡ false = grind (arith, e) in
-        let c : (n v == n x) ≡ true = eq-eqb (n v) (n x) e in
-        let d : (n x == n v) ≡ true = eq-eqb (n x) (n v) (sym e) in
-        rw (a, b, c, d) refl)
+      let a : nat_lt (n v) (n x) ≡ false = grind (arith, e) in
+      let b : nat_lt (n x) (n v) ≡ false = grind (arith, e) in
+      let c : (n v == n x) ≡ true = eq-eqb (n v) (n x) e in
+      let d : (n x == n v) ≡ true = eq-eqb (n x) (n v) (sym e) in
+      rw (a, b, c, d) refl)
       (⊎_elim
-        (λ (h : n v < n x).
-          let a : nat_lt (n v) (n x) ≡ true = grind (arith, h) in
-          let c : (n v == n x) ≡ false = ne_eqb (n v) (n x) (λ e. omega (arith, e)) in
-          rw (a, c) refl)
-        (λ (h : n x < n v).
-          let b : nat_lt (n x) (n v) ≡ true = grind (arith, h) in
-          let a : nat_lt (n v) (n x) ≡ false = grind (arith, h) in
-          let c : (n v == n x) ≡ false = ne_eqb (n v) (n x) (λ e. omega (arith, e)) in
-          rw (a, b, c) refl))
+      (λ (h : n v < n x).
+      let a : nat_lt (n v) (n x) ≡ true = grind (arith, h) in
+      let c : (n v == n x) ≡ false = ne_eqb (n v) (n x) (λ e. omega (arith, e)) in
+      rw (a, c) refl)
+      (λ (h : n x < n v).
+      let b : nat_lt (n x) (n v) ≡ true = grind (arith, h) in
+      let a : nat_lt (n v) (n x) ≡ false = grind (arith, h) in
+      let c : (n v == n x) ≡ false = ne_eqb (n v) (n x) (λ e. omega (arith, e)) in
+      rw (a, b, c) refl))
       (cases_order (n v) (n x))
 
   filter-tie : (v : X) (xs : List X) → filter (tie v) xs ≡ like v xs

@@ -1,5 +1,5 @@
 -- The order of cells.
-use Rattle.std.specs.Prelude.{ℕ}
+use Rattle.std.specs.Prelude.{◌≡◌, ℕ}
 use Rattle.std.specs.declared.cmp.Ordering.{Ordering}
 use Rattle.std.specs.Ordering.{ordering_then, nat_cmp}
 use Rattle.ocsf_tree.specs.Key.{key_text}
@@ -31,3 +31,7 @@ cell_cmp (cell.Kind name) (cell.Kind other) = text_cmp name other
 cell_cmp (cell.Category c) (cell.Category d) = text_cmp c d
 cell_cmp (cell.Ext name) (cell.Ext other) = text_cmp name other
 cell_cmp x y = nat_cmp (cell_kind x) (cell_kind y)
+
+-- cells are compared so
+abbrev pub IsCellOrder : (Cell → Cell → Ordering) → Type 0
+IsCellOrder cmp = (x y : Cell) → cmp x y ≡ cell_cmp x y

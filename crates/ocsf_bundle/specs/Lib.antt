@@ -7,6 +7,7 @@ pub mod Groups
 pub mod Index
 pub mod Indexed
 pub mod Keys
+pub mod Laws
 pub mod Looks
 pub mod NamedMap
 pub mod Parts

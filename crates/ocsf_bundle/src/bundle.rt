@@ -36,7 +36,6 @@ pub struct Bundle {
 
 impl Model for Bundle {
     ghost use Rattle.ocsf_bundle.specs.Stored.{Stored};
-
     ghost use Rattle.ocsf_tree.specs.contracts.tree.Tree as tree;
     ghost use Rattle.std.specs.Coded.{codes};
 

@@ -96,10 +96,7 @@ pub fn files_after(
     Ok(files)
 }
 
-fn change_enabled(
-    enabled: &mut BTreeMap<Text, Text>,
-    change: &Change,
-) -> Result<(), AllocError>
+fn change_enabled(enabled: &mut BTreeMap<Text, Text>, change: &Change) -> Result<(), AllocError>
     ensures { OnOk result ((q : List ℕ) → get text_cmp enabled.new q ≡ unwrap_or (said_of (λ name. name) name_said q change.now) (get text_cmp enabled.old q)) }
 {
     match change {

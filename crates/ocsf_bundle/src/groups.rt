@@ -41,10 +41,7 @@ fn push_file(
     Ok(())
 }
 
-fn groups_in(
-    alloc: Global,
-    map: BTreeMap<Text, Row<ActiveFile>>,
-) -> Result<Row<Group>, AllocError>
+fn groups_in(alloc: Global, map: BTreeMap<Text, Row<ActiveFile>>) -> Result<Row<Group>, AllocError>
     ensures groups { IfOk result (λ made. made ≡ groups_in map) }
     ensures ordered { IfOk result (λ _. IsOrdered text_cmp map) }
 {
@@ -56,11 +53,7 @@ fn groups_in(
 }
 
 /// The files by the key of that kind that they give, strictly by that key.
-pub fn groups_of(
-    alloc: Global,
-    by: GroupBy,
-    files: &[ActiveFile],
-) -> Result<Row<Group>, AllocError>
+pub fn groups_of(alloc: Global, by: GroupBy, files: &[ActiveFile]) -> Result<Row<Group>, AllocError>
     ensures { IfOk result (λ made. made ≡ groups_of (given_by by) files.now) }
 {
     let mut map: BTreeMap<Text, Row<ActiveFile>> = BTreeMap::new(alloc);

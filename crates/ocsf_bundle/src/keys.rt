@@ -58,11 +58,7 @@ pub fn patched<'a>(active: &ActiveFile, file: &'a ItemFile) -> Option<&'a Text>
     }
 }
 
-fn item_key(
-    alloc: Global,
-    active: &ActiveFile,
-    file: &ItemFile,
-) -> Result<Option<Text>, AllocError>
+fn item_key(alloc: Global, active: &ActiveFile, file: &ItemFile) -> Result<Option<Text>, AllocError>
     ensures { IfOk result (λ key. key ≡ item_key active.now file.now) }
 {
     if patched(active, file).is_some() {
@@ -90,11 +86,7 @@ pub enum GroupBy {
 }
 
 /// The key of that kind that the file gives, if it gives one.
-pub fn given_by(
-    alloc: Global,
-    by: GroupBy,
-    active: &ActiveFile,
-) -> Result<Option<Text>, AllocError>
+pub fn given_by(alloc: Global, by: GroupBy, active: &ActiveFile) -> Result<Option<Text>, AllocError>
     ensures { IfOk result (λ key. key ≡ given_by by active.now) }
 {
     match (by, &active.file.get().raw) {
@@ -111,10 +103,7 @@ pub fn given_by(
             Ok(Some(key_of(alloc, active, file.name.as_str())?))
         }
         (GroupBy::Include, RawFile::Profile(_)) | (GroupBy::Include, RawFile::Include(_)) => {
-            Ok(Some(Text::of(
-                alloc,
-                path_below(active.file.get().path.as_str()),
-            )?))
+            Ok(Some(Text::of(alloc, path_below(active.file.get().path.as_str()))?))
         }
         (GroupBy::Extension, RawFile::Extension(ext)) => Ok(Some(ext.name.copy()?)),
         _ => Ok(None),

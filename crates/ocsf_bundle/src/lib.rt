@@ -15,6 +15,7 @@ mod groups;
 mod index;
 mod key_faults;
 mod keys;
+mod laws;
 mod look;
 #[cfg(test)]
 mod look_tests;
@@ -32,5 +33,6 @@ pub use bundle::Bundle;
 pub use cells::{Cell, Part};
 pub use edit::{Change, Edit, edit_of};
 pub use edit_laws::edits_read_one_way;
+pub use laws::{cells_are_ordered, keys_are_those_of_items};
 pub use shows::Shows;
 pub use stored::StoredFile;

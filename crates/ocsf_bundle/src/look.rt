@@ -192,12 +192,7 @@ fn asked<'a>(index: &'a Index, cell: &Cell) -> &'a [ActiveFile]
     }
 }
 
-fn category_at<'a>(
-    files: &'a [ActiveFile],
-    cell: &Cell,
-    key: &str,
-    k: usize,
-) -> Option<Part<'a>>
+fn category_at<'a>(files: &'a [ActiveFile], cell: &Cell, key: &str, k: usize) -> Option<Part<'a>>
     requires { AreActiveOrdered files.now }
     ensures part { option_map shown result ≡ slice_get (or_other key.now (parts_in cell.now files.now)) k }
     ensures ordered { IfSome result (λ part. IsShownOrdered (shown part)) }

@@ -135,7 +135,9 @@ fn is_item(ext: Option<&ExtFile>, file: &ItemFile, key: &Key) -> bool {
         None => false,
     };
     match &file.name {
-        Some(name) => !is_patch && file.side == key.side && is_key(ext, name.as_str(), key.name.as_str()),
+        Some(name) => !is_patch
+            && file.side == key.side
+            && is_key(ext, name.as_str(), key.name.as_str()),
         None => false,
     }
 }
@@ -164,11 +166,19 @@ fn is_here(cell: &Cell, ext: Option<&ExtFile>, path: &str) -> bool {
 fn plain_entry<'a>(cell: &Cell, file: &'a DictFile) -> Option<&'a str> {
     match cell {
         Cell::Dict(name) => {
-            let entry = file.attributes.as_slice().iter().find(|entry| entry.name == *name)?;
+            let entry = file
+                .attributes
+                .as_slice()
+                .iter()
+                .find(|entry| entry.name == *name)?;
             Some(caption(&entry.caption))
         }
         Cell::Kind(name) => {
-            let entry = file.types.as_slice().iter().find(|entry| entry.name == *name)?;
+            let entry = file
+                .types
+                .as_slice()
+                .iter()
+                .find(|entry| entry.name == *name)?;
             Some(caption(&entry.caption))
         }
         _ => None,
@@ -185,9 +195,8 @@ fn plain_part<'a>(
     match (cell, raw) {
         (_, RawFile::Item(file)) => plain_item(cell, ext, file),
         (_, RawFile::Dictionary(file)) => plain_entry(cell, file),
-        (Cell::Profile(key), RawFile::Profile(file)) if is_key(ext, file.name.as_str(), key.as_str()) => {
-            Some(caption(&file.caption))
-        }
+        (Cell::Profile(key), RawFile::Profile(file))
+            if is_key(ext, file.name.as_str(), key.as_str()) => { Some(caption(&file.caption)) }
         (Cell::Include { .. }, RawFile::Profile(file)) if is_here(cell, ext, path) => {
             Some(caption(&file.caption))
         }
@@ -195,10 +204,15 @@ fn plain_part<'a>(
             Some(first_caption(entries.as_slice()))
         }
         (Cell::Category(key), RawFile::Categories(entries)) => {
-            let entry = entries.as_slice().iter().find(|entry| is_key(ext, entry.name.as_str(), key.as_str()))?;
+            let entry = entries
+                .as_slice()
+                .iter()
+                .find(|entry| is_key(ext, entry.name.as_str(), key.as_str()))?;
             Some(caption(&entry.caption))
         }
-        (Cell::Ext(name), RawFile::Extension(file)) if file.name == *name => Some(caption(&file.caption)),
+        (Cell::Ext(name), RawFile::Extension(file)) if file.name == *name => Some(caption(
+            &file.caption,
+        )),
         _ => None,
     }
 }
@@ -229,7 +243,10 @@ fn push_layer(
 }
 
 fn is_layered(cell: &Cell) -> bool {
-    matches!(cell, Cell::Patches(_) | Cell::Dict(_) | Cell::Kind(_) | Cell::Category(_))
+    matches!(
+        cell,
+        Cell::Patches(_) | Cell::Dict(_) | Cell::Kind(_) | Cell::Category(_)
+    )
 }
 
 fn is_other(cell: &Cell) -> bool {
@@ -258,10 +275,22 @@ fn shown_plainly(alloc: Global, bundle: &Bundle, cell: &Cell) -> Result<String, 
 
 fn cell(kind: &str, name: Text, from: Text) -> Cell {
     match kind {
-        "class" => Cell::Item(Key { side: Side::Class, name }),
-        "object" => Cell::Item(Key { side: Side::Object, name }),
-        "exists" => Cell::Exists(Key { side: Side::Object, name }),
-        "patches" => Cell::Patches(Key { side: Side::Object, name }),
+        "class" => Cell::Item(Key {
+            side: Side::Class,
+            name,
+        }),
+        "object" => Cell::Item(Key {
+            side: Side::Object,
+            name,
+        }),
+        "exists" => Cell::Exists(Key {
+            side: Side::Object,
+            name,
+        }),
+        "patches" => Cell::Patches(Key {
+            side: Side::Object,
+            name,
+        }),
         "profile" => Cell::Profile(name),
         "" | "win" => Cell::Include { from, path: name },
         "dict" => Cell::Dict(name),
@@ -320,7 +349,12 @@ fn shows_what_the_files_say(rt: HostRuntime) -> Result<(), Fail> {
 #[test]
 fn keys_in_order(rt: HostRuntime) -> Result<(), Fail> {
     let bundle = bundle_of(&rt, FILES)?;
-    let rows = ["class:file", "class:win/file", "object:file", "object:lin/own"];
+    let rows = [
+        "class:file",
+        "class:win/file",
+        "object:file",
+        "object:lin/own",
+    ];
     for (k, want) in rows.iter().enumerate() {
         match bundle.key_at(k) {
             Some(key) => assert_eq!(rt; key.to_text()?.as_str(), *want),
@@ -370,9 +404,18 @@ fn applies_edits(rt: HostRuntime) -> Result<(), Fail> {
             r#"[{"put":"objects/a.json","body":{ "name" : "c" }},{"put":"objects/a.json","body":{"zz":1,"name":"d"}},{"disable":"z"},{"disable":"x"}]"#,
             r#"objects/a.json;{"name":"d","zz":1};objects/b.json;{"name":"b"};y;"#,
         ),
-        (r#"[{"remove":"objects/q.json"}]"#, "absent;objects/q.json;;"),
-        (r#"[{"remove":"nowhere"},{"put":"nowhere","body":5}]"#, "absent;nowhere;;"),
-        (r#"[{"put":"nowhere","body":5},{"remove":"nowhere"}]"#, "path_unknown;nowhere;;"),
+        (
+            r#"[{"remove":"objects/q.json"}]"#,
+            "absent;objects/q.json;;",
+        ),
+        (
+            r#"[{"remove":"nowhere"},{"put":"nowhere","body":5}]"#,
+            "absent;nowhere;;",
+        ),
+        (
+            r#"[{"put":"nowhere","body":5},{"remove":"nowhere"}]"#,
+            "path_unknown;nowhere;;",
+        ),
         (
             r#"[{"remove":"objects/a.json"},{"remove":"objects/a.json"}]"#,
             "absent;objects/a.json;;",
@@ -389,7 +432,10 @@ fn applies_edits(rt: HostRuntime) -> Result<(), Fail> {
             r#"[{"put":"objects/c.json","body":{"name":"c"}},{"remove":"objects/c.json"},{"disable":"y"},{"enable":"y"}]"#,
             r#"objects/a.json;{"name":"e"};y;"#,
         ),
-        (r#"[{"put":"objects/c.json","body":{}}]"#, "shape;objects/c.json;/name missing;"),
+        (
+            r#"[{"put":"objects/c.json","body":{}}]"#,
+            "shape;objects/c.json;/name missing;",
+        ),
         (r#"[{"remove":"objects/a.json"},{"disable":"y"}]"#, ""),
     ];
     let mut bundle = Bundle::empty(alloc);

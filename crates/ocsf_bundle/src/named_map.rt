@@ -23,10 +23,7 @@ pub fn map_of<T: Named + TryClone>(
 }
 
 /// The items of the map, in byte order of their names.
-pub fn values_in<T: Drop>(
-    alloc: Global,
-    items: BTreeMap<Text, T>,
-) -> Result<Row<T>, AllocError>
+pub fn values_in<T: Drop>(alloc: Global, items: BTreeMap<Text, T>) -> Result<Row<T>, AllocError>
     ensures values { IfOk result (λ made. made ≡ values_in items) }
     ensures ordered { IfOk result (λ _. IsOrdered text_cmp items) }
 {

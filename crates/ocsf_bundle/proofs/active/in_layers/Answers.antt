@@ -10,5 +10,5 @@ returns c =
     let items : c.into_vec-layered.result.items ≡ c.args.files.now = search rules in
     c.from_vec.ensures
     ∙ sorted-in_order extension_uid c.into_vec-layered.result.items c.sort_by_key.new.self.items up
-        (c.in_ok-sort_by_key.ensures.stable extension_uid (answers_always _ _ _ (λ f a r f' k. search rules)))
+    (c.in_ok-sort_by_key.ensures.stable extension_uid (answers_always _ _ _ (λ f a r f' k. search rules)))
     ∙ ap (in_order extension_uid) items

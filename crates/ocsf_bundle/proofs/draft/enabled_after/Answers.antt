@@ -35,7 +35,7 @@ returns-clause-after c =
     let up = IsByName-values same m c.in_ok-enabled-2.ensures.ordered (own c) in
     c.in_ok-enabled-2.ensures.values
     ∙ all_after-is same name_said names_own c.args.old.now c.args.changes.now (values_in m) up
-      (λ q. at_name-values same m c.in_ok-enabled-2.ensures.ordered (own c) q ∙ stands c q)
+    (λ q. at_name-values same m c.in_ok-enabled-2.ensures.ordered (own c) q ∙ stands c q)
 
 pub returns-clause-by_name : goal.returns-clause-by_name
 returns-clause-by_name c =

@@ -52,11 +52,12 @@ by_path c = IsByName-values stored_path c.loop-change.files c.in_ok-files-2.ensu
 pub returns-clause-outcome : goal.returns-clause-outcome
 returns-clause-outcome c =
     let m = c.loop-change.files in
-    let at_end : length c.args.changes.now ≡ c.loop-change.change-index = omega arith in
-    ( (λ k d h. c.loop-change.invariant.fine k d (omega (arith, h, at_end)))
-    , c.in_ok-files-2.ensures.values
-      ∙ all_after-is stored_path file_said files_own c.args.old.now c.args.changes.now (values_in m) (by_path c)
-        (λ q. at_name-values stored_path m c.in_ok-files-2.ensures.ordered (own c) q ∙ stands c q))
+    let at_end : length c.args.changes.now ≡ c.loop-change.change-index = omega arith in (
+      (λ k d h. c.loop-change.invariant.fine k d (omega (arith, h, at_end))),
+      c.in_ok-files-2.ensures.values
+          ∙ all_after-is stored_path file_said files_own c.args.old.now c.args.changes.now (values_in m) (by_path c)
+          (λ q. at_name-values stored_path m c.in_ok-files-2.ensures.ordered (own c) q ∙ stands c q),
+    )
 
 pub returns-clause-by_path : goal.returns-clause-by_path
 returns-clause-by_path c =
@@ -66,7 +67,7 @@ returns-clause-by_path c =
 pub returns-clause-ordered : goal.returns-clause-ordered
 returns-clause-ordered c =
     let found : (q : List ℕ) → IfSome (at_name stored_path q (values_in c.loop-change.files)) IsStoredOrdered =
-        λ q.
-        let P : Option StoredFile → Type 0 = λ o. IfSome o IsStoredOrdered in
-        subst P (sym (at_name-values stored_path c.loop-change.files c.in_ok-files-2.ensures.ordered (own c) q)) (c.loop-change.invariant.ordered q) in
+    λ q.
+    let P : Option StoredFile → Type 0 = λ o. IfSome o IsStoredOrdered in
+    subst P (sym (at_name-values stored_path c.loop-change.files c.in_ok-files-2.ensures.ordered (own c) q)) (c.loop-change.invariant.ordered q) in
     subst AreFilesOrdered (sym c.in_ok-files-2.ensures.values) (all-found stored_path IsStoredOrdered (values_in c.loop-change.files) (by_path c) found)

@@ -25,5 +25,5 @@ pub returns : goal.returns
 returns c =
     let all : take c.loop-file.file-index c.args.files.now ≡ c.args.files.now = take_all c.loop-file.file-index c.args.files.now (omega arith) in
     let same : (q : List ℕ) → get text_cmp c.loop-file.map q ≡ unless_empty (giving (given_by c.args.by) q c.args.files.now) =
-        λ q. c.loop-file.invariant q ∙ ap (λ l. unless_empty (giving (given_by c.args.by) q l)) all in
+    λ q. c.loop-file.invariant q ∙ ap (λ l. unless_empty (giving (given_by c.args.by) q l)) all in
     c.in_ok-groups.ensures.groups ∙ groups_in-map (given_by c.args.by) c.args.files.now c.loop-file.map c.in_ok-groups.ensures.ordered same

@@ -20,7 +20,7 @@ replaced false x y z = refl
 pub returns : goal.returns
 returns c q =
     let files : c.match-remove.files ≡ unwrap_or (get text_cmp c.args.groups.now c.args.name) [] =
-        elim c.match-remove.branch [ in-Some w ↦ search rules | in-None w ↦ search rules ] in
+    elim c.match-remove.branch [ in-Some w ↦ search rules | in-None w ↦ search rules ] in
     let pushed : c.push.new.self ≡ c.match-remove.files ++ c.args.file ∷ [] = search rules in
     let grown : c.push.new.self ≡ unwrap_or (get text_cmp c.args.groups.now c.args.name) [] ++ c.args.file ∷ [] = pushed ∙ ap (λ files. files ++ c.args.file ∷ []) files in
     let here = is_eq (text_cmp c.args.name q) in

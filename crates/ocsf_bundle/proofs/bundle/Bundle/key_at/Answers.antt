@@ -9,7 +9,7 @@ pub returns : goal.returns
 returns c =
     let slice : c.as_slice.result.now ≡ c.self.inside.index.keys = search rules in
     let kept : c.self.inside.index.keys ≡ active_keys (active_files c.self.inside.files c.self.inside.enabled) =
-        ap (λ i. i.keys) c.self.invariant.indexed ∙ keys-index_of (active_files c.self.inside.files c.self.inside.enabled) in
+    ap (λ i. i.keys) c.self.invariant.indexed ∙ keys-index_of (active_files c.self.inside.files c.self.inside.enabled) in
     let files : c.self.inside.files ≡ c.args.self.now.files = search rules in
     let enabled : c.self.inside.enabled ≡ c.args.self.now.enabled = search rules in
     c.key_at.ensures
