@@ -11,7 +11,6 @@ use Rattle.std.proofs.lemmas.Map.Lookups.{exact_unsigned}
 use Rattle.std.proofs.lemmas.List.{take_more}
 use Rattle.std.proofs.lemmas.List.Folds.{list_any-append}
 use Rattle.ocsf_tree.specs.ByName.{text_cmp}
-use Rattle.ocsf_tree.proofs.NameLists.{same_text}
 use Rattle.ocsf_bundle.specs.declared.numbers.Numbered.{Numbered}
 use Rattle.ocsf_bundle.specs.BundleFaults.{is_before}
 use Rattle.ocsf_bundle.specs.OwnFaults.{has_lesser}

@@ -1,5 +1,5 @@
 -- What is found by the index is what is wrong with the files.
-use Rattle.std.proofs.Common.{◌≡◌, ℕ, ◌<◌, ◌≤◌, List, [], ◌∷◌, ◌++◌, map, length, Bool, true, false, ◌||◌, not, if◌then◌else◌, Option, Some, None, refl, sym, ◌∙◌, ap, arith}
+use Rattle.std.proofs.Common.{◌≡◌, ℕ, ◌<◌, ◌≤◌, List, [], ◌∷◌, ◌++◌, map, length, Bool, true, false, not, if◌then◌else◌, Option, Some, None, refl, sym, ◌∙◌, ap, arith}
 use Rattle.std.specs.Prelude.{All, ⊤, codes, nat_lt}
 use Rattle.std.specs.Option.{IfSome, option_or, option_and_then}
 use Rattle.std.specs.List.{filter_map, cons_option, sum_by}
@@ -8,7 +8,6 @@ use Rattle.ocsf_tree.specs.Key.{side_text}
 use Rattle.ocsf_tree.specs.LeastFault.{rank, least_fault}
 use Rattle.ocsf_tree.specs.declared.fault.Fault.{Fault}
 use Rattle.ocsf_tree.specs.declared.fault.Code.TheVariants as code
-use Rattle.ocsf_tree.specs.declared.key.Side.{Side}
 use Rattle.ocsf_tree.specs.declared.key.Side.TheVariants as side
 use Rattle.ocsf_tree.proofs.LeastFaults.{least_fault-by_rank}
 use Rattle.ocsf_raw.specs.declared.files.ItemFile.{ItemFile}
@@ -22,7 +21,7 @@ use Rattle.ocsf_bundle.specs.Looks.{is_there}
 use Rattle.ocsf_bundle.specs.FilesLook.{item_of, kind_of, looks}
 use Rattle.ocsf_bundle.specs.Groups.{given_by, group, groups_of}
 use Rattle.ocsf_bundle.specs.Index.{index_of, is_dictionary}
-use Rattle.ocsf_bundle.specs.BundleFaults.{fault, fault_if, max_files, max_bytes, max_extensions, max_items, too_many, limits_passed, extension_unknown, unknown_extensions, second_of, clashes, key_clashes, number_taken, numbers_taken, extension_numbers, listed_categories, with_other, uids_taken, IsGiven, is_given, patch_at, patch_fault, patch_faults, type_faults, file_faults, own_fault}
+use Rattle.ocsf_bundle.specs.BundleFaults.{fault, fault_if, max_files, max_bytes, max_extensions, max_items, too_many, limits_passed, extension_unknown, unknown_extensions, second_of, clashes, key_clashes, number_taken, numbers_taken, extension_numbers, listed_categories, with_other, uids_taken, IsGiven, is_given, patch_at, patch_fault, patch_faults, type_faults, own_fault}
 use Rattle.ocsf_bundle.specs.OwnFaults.{unknown_in, clash_in, clashes_in, key_clashes_in, given_in, kinds_in, file_fault_in, own_fault_in}
 use Rattle.ocsf_bundle.proofs.Grouped.{group_at-groups_of}
 use Rattle.ocsf_bundle.proofs.Kept.{keys-index_of}

@@ -1,10 +1,9 @@
 -- What dictionaries say of a type, and the way that is left.
-use Rattle.std.proofs.Common.{◌≡◌, ℕ, suc, zero, ◌+◌, ◌-◌, ◌<◌, List, [], ◌∷◌, ◌++◌, Bool, true, false, ◌||◌, not, if◌then◌else◌, is_some, Option, Some, None, unwrap_or, refl, sym, ap, ◌∙◌, arith}
+use Rattle.std.proofs.Common.{◌≡◌, ℕ, suc, zero, ◌-◌, ◌<◌, List, [], ◌∷◌, ◌++◌, Bool, true, false, ◌||◌, not, if◌then◌else◌, is_some, Option, Some, None, unwrap_or, refl, sym, ap, ◌∙◌, arith}
 use Rattle.std.specs.Option.{option_or}
 use Rattle.ocsf_tree.specs.declared.fault.Fault.{Fault}
 use Rattle.ocsf_tree.specs.declared.fault.Code.TheVariants as code
 use Rattle.ocsf_raw.specs.declared.dictionary.TypeEntry.{TypeEntry}
-use Rattle.ocsf_schema.specs.declared.records.Base.{Base}
 use Rattle.ocsf_schema.specs.Bases.{base_of}
 use Rattle.ocsf_bundle.specs.Looks.{is_there}
 use Rattle.ocsf_bundle.specs.BundleFaults.{fault, fault_if, Kinds, last_parent, narrowed, is_end, reached, type_subject, way_fault, type_fault_at, type_fault}

@@ -1,6 +1,6 @@
 -- What is wrong with the files as a whole, as a bundle finds it by its index.
 use Rattle.std.specs.Prelude.{ℕ, ◌++◌, not, Bool, false, List, [], length, codes, Option, Some, None}
-use Rattle.std.specs.List.{filter_map, list_any}
+use Rattle.std.specs.List.{filter_map}
 use Rattle.std.specs.Option.{option_map_or, option_and_then, option_or}
 use Rattle.std.specs.Ordering.{is_lt}
 use Rattle.ocsf_tree.specs.ByName.{text_cmp}

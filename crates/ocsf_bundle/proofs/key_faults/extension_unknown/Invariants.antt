@@ -1,5 +1,4 @@
 use Rattle.std.proofs.Common.{◌≡◌}
-use Rattle.ocsf_tree.specs.LeastFault.{least_from}
 use Rattle.std.specs.List.{filter_map}
 use Rattle.ocsf_tree.specs.LeastFault.{least_fault}
 use Rattle.ocsf_bundle.specs.OwnFaults.{unknown_in}

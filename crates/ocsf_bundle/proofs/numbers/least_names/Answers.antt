@@ -1,4 +1,4 @@
-use Rattle.std.proofs.Common.{◌≡◌, length, take, ap, sym, ◌∙◌, ◌||◌, arith, rules}
+use Rattle.std.proofs.Common.{◌≡◌, take, ap, sym, ◌∙◌, ◌||◌, arith}
 use Rattle.std.specs.List.{list_any}
 use Rattle.std.proofs.lemmas.List.{take_all}
 use Rattle.ocsf_bundle.specs.BundleFaults.{is_before}

@@ -1,10 +1,10 @@
-use Rattle.std.proofs.Common.{◌≡◌, [], ◌∷◌, ◌++◌, take, Some, None, sym, ap, ◌∙◌, rules}
-use Rattle.std.specs.Option.{option_copied, option_or}
+use Rattle.std.proofs.Common.{◌≡◌, take, Some, None, sym, ap, ◌∙◌, rules}
+use Rattle.std.specs.Option.{option_or}
 use Rattle.ocsf_raw.proofs.FilterMaps.{filter_map-kept, filter_map-passed}
 use Rattle.ocsf_bundle.specs.FilesLook.{kind_of}
 use Rattle.ocsf_bundle.specs.Looks.{is_there}
 use Rattle.ocsf_bundle.specs.BundleFaults.{last_parent}
-use Rattle.ocsf_bundle.specs.OwnFaults.{parent_in, kinds_in}
+use Rattle.ocsf_bundle.specs.OwnFaults.{kinds_in}
 use Rattle.ocsf_bundle.proofs.TypeWays.{is_there-push, last_parent-push}
 use Rattle.ocsf_bundle.proofs.type_fault.narrowing.Goals as goal
 
