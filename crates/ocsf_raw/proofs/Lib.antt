@@ -9,6 +9,7 @@ pub mod LeastParts
 pub mod LeastTrees
 pub mod Leasts
 pub mod MembersByName
+pub mod Numbers
 pub mod Parts
 pub mod Refusals
 pub mod SaysEntries

@@ -1,5 +1,5 @@
--- In a record of a file the entries stand strictly by name, and the members of an enumeration by key.
-use Rattle.std.specs.Prelude.{List, All, ⊤}
+-- In a record of a file the entries stand strictly by name, and the members of an enumeration by key; its numbers are in their ranges.
+use Rattle.std.specs.Prelude.{◌≤◌, List, All, IfSome, ⊤}
 use Rattle.ocsf_tree.specs.declared.attribute.EnumMember.{EnumMember}
 use Rattle.ocsf_tree.specs.ByName.{IsByName}
 use Rattle.ocsf_raw.specs.declared.attribute.RawAttr.{RawAttr}
@@ -24,3 +24,13 @@ IsFileOrdered (Item file) = AreEntriesOrdered file.attributes
 IsFileOrdered (Profile file) = AreEntriesOrdered file.attributes
 IsFileOrdered (Include entries) = AreEntriesOrdered entries
 IsFileOrdered (Extension file) = ⊤
+
+-- the numbers that a file gives are in their ranges
+abbrev pub AreFileNumbersInRange : RawFile → Type 0
+AreFileNumbersInRange (Item file) = IfSome file.uid (λ uid. uid ≤ 999)
+AreFileNumbersInRange (Categories entries) = All (λ entry. entry.uid ≤ 99) entries
+AreFileNumbersInRange (Extension file) = file.uid ≤ 999
+AreFileNumbersInRange (Version text) = ⊤
+AreFileNumbersInRange (Dictionary file) = ⊤
+AreFileNumbersInRange (Profile file) = ⊤
+AreFileNumbersInRange (Include entries) = ⊤

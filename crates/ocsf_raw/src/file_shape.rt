@@ -2,7 +2,7 @@ ghost use Rattle.std.specs.Prelude.{◌≡◌, IfOk, nat_lt, length};
 ghost use Rattle.ocsf_tree.specs.CompactText.{text};
 ghost use Rattle.ocsf_tree.specs.Valid.{IsValid};
 ghost use Rattle.ocsf_raw.specs.FileShape.{is_of_core, file_wanted, max_file_length, shape_name, IsShape};
-ghost use Rattle.ocsf_raw.specs.Ordered.{IsFileOrdered};
+ghost use Rattle.ocsf_raw.specs.Ordered.{IsFileOrdered, AreFileNumbersInRange};
 
 use crate::content::content;
 use crate::files::RawFile;
@@ -91,6 +91,7 @@ pub fn shape(alloc: Global, path: &str, tree: &Tree) -> Result<RawFile, RawError
     requires valid { IsValid tree.now }
     ensures shape { IsShape path.now tree.now result }
     ensures ordered { IfOk result IsFileOrdered }
+    ensures numbers { IfOk result AreFileNumbersInRange }
 {
     let Some(form) = form_of(path) else {
         return Err(RawError::Fault(fault(alloc, Code::PathUnknown, path, Text::new(alloc))?));
