@@ -2,12 +2,15 @@ ghost use Rattle.std.specs.Prelude.{◌≡◌, ◌<◌, ◌≤◌, ℕ, List, le
 ghost use Rattle.std.specs.List.Sorted.{IsPartitionPoint};
 ghost use Rattle.std.specs.declared.cmp.Ordering.TheVariants.{Less, Equal, Greater};
 ghost use Rattle.std.specs.Option.{option_copied};
+ghost use Rattle.ocsf_tree.specs.FirstOfEach.{first_of_each};
 ghost use Rattle.ocsf_tree.specs.ByName.{IsByName, at_name, put_by_name, text_cmp};
 
+use crate::attribute::EnumMember;
 use crate::row::Row;
 use crate::shared::Shared;
 use crate::text::Text;
-use std::alloc::AllocError;
+use crate::try_clone::TryClone;
+use std::alloc::{AllocError, Global};
 
 /// An item of a list that stands in the byte order of its items' names.
 pub trait Named {
@@ -16,6 +19,14 @@ pub trait Named {
 
     fn name(&self) -> &str
         ensures { result.now ≡ name_of self.now };
+}
+
+impl Named for EnumMember {
+    ghost name_of = { λ member. member.key };
+
+    fn name(&self) -> &str {
+        self.key.as_str()
+    }
 }
 
 impl Named for Text {
@@ -72,4 +83,17 @@ impl<T: Named + Drop> Row<T> {
             Err(at) => self.insert(at, item),
         }
     }
+}
+
+/// Of each name the first of these items that has it, in byte order of the names.
+pub fn first_of_each<T: Named + TryClone>(alloc: Global, items: &[T]) -> Result<Row<T>, AllocError>
+    ensures { IfOk result (λ made. made ≡ first_of_each T.name_of items.now) }
+{
+    let mut made = Row::new(alloc);
+    let mut left = items.len();
+    while left > 0 {
+        left -= 1;
+        made.put(items[left].try_clone()?)?;
+    }
+    Ok(made)
 }

@@ -22,7 +22,7 @@ mod tree;
 mod try_clone;
 
 pub use attribute::{EnumMember, Requirement, Span};
-pub use by_name::{Named, find_by_name};
+pub use by_name::{Named, find_by_name, first_of_each};
 pub use equality::is_same;
 pub use fault::{Code, Fault, lesser_fault};
 pub use key::{Key, Side};
