@@ -1,0 +1,14 @@
+-- In order, each once.
+use Rattle.std.specs.Prelude.{List, [], ◌∷◌}
+use Rattle.std.specs.declared.cmp.Ordering.{Ordering}
+use Rattle.std.specs.FinMap.Entries.{by_order}
+
+module _ {X : Type 0} (cmp : X → X → Ordering) where
+  -- the item in its place, unless it is there
+  abbrev pub put_in_order : X → List X → List X
+  put_in_order x [] = x ∷ []
+  put_in_order x (y ∷ ys) = by_order (cmp x y) (x ∷ y ∷ ys) (y ∷ ys) (y ∷ put_in_order x ys)
+
+  abbrev pub in_order : List X → List X
+  in_order [] = []
+  in_order (x ∷ xs) = put_in_order x (in_order xs)
