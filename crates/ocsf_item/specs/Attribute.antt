@@ -1,6 +1,5 @@
 -- An attribute of an item: what its layers say, and behind that the dictionary.
 use Rattle.std.specs.Prelude.{ℕ, ◌||◌, Bool, false, List, [], ◌∷◌, ◌++◌, map, reverse, flat_map, codes, Option, Some, None, unwrap_or, is_some, if◌then◌else◌}
-use Rattle.std.specs.List.{list_any}
 use Rattle.std.specs.Option.{option_map, option_and_then, option_or}
 use Rattle.std.specs.Str.{bytes_eq}
 use Rattle.ocsf_tree.specs.declared.key.Key.{Key}

@@ -5,3 +5,4 @@ pub mod Compiled
 pub mod ItemFaults
 pub mod InOrder
 pub mod Reads
+pub mod Laws
