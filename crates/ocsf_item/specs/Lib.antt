@@ -6,3 +6,5 @@ pub mod ItemFaults
 pub mod InOrder
 pub mod Reads
 pub mod Laws
+pub mod Listing
+pub mod MergedDictionary
