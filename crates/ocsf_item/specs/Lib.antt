@@ -8,3 +8,4 @@ pub mod Reads
 pub mod Laws
 pub mod Listing
 pub mod MergedDictionary
+pub mod PrintedSchema
