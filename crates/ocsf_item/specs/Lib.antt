@@ -9,3 +9,4 @@ pub mod Laws
 pub mod Listing
 pub mod MergedDictionary
 pub mod PrintedSchema
+pub mod SchemaFaults
