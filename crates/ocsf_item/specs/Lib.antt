@@ -10,3 +10,4 @@ pub mod Listing
 pub mod MergedDictionary
 pub mod PrintedSchema
 pub mod SchemaFaults
+pub mod Compilation
