@@ -11,3 +11,6 @@ pub mod MergedDictionary
 pub mod PrintedSchema
 pub mod SchemaFaults
 pub mod Compilation
+pub mod Patterns
+pub mod Verdict
+pub mod Judgement
