@@ -73,7 +73,7 @@ empty = record { items = []; patches = []; profiles = []; includes = []; dict = 
 
 -- ---- files
 
-abbrev plain : List ℕ → RawAttr
+abbrev pub plain : List ℕ → RawAttr
 plain name = record {
   name = name;
   removed = false;
@@ -92,7 +92,7 @@ plain name = record {
 abbrev word : List ℕ → List ℕ → List ℕ × DictOf
 word name t = (name, record { ext = []; entry = record { name = name; caption = None; description = None; type_name = Some t; is_array = None; members = []; sibling = None } })
 
-abbrev bare : Side → List ℕ → List RawAttr → ItemFile
+abbrev pub bare : Side → List ℕ → List RawAttr → ItemFile
 bare side name entries = record {
   side = side;
   name = Some name;
@@ -114,7 +114,7 @@ object name entries = (key Object name, bare Object name entries)
 abbrev extending : List ℕ → Key × ItemFile → Key × ItemFile
 extending parent (k, file) = (k, record file { parent = Some parent })
 
-abbrev extension : List ℕ → ℕ → ExtFile
+abbrev pub extension : List ℕ → ℕ → ExtFile
 extension name uid = record { name = name; uid = uid; caption = None; version = None }
 
 abbrev name : List ℕ
@@ -266,7 +266,7 @@ listed_is_included = refl
 
 -- ---- the greatest numbers
 
-abbrev member : List ℕ → List ℕ → EnumMember
+abbrev pub member : List ℕ → List ℕ → EnumMember
 member key caption = record { key = key; caption = caption; description = None }
 
 greatest : Looks

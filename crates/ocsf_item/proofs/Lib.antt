@@ -5,3 +5,7 @@ pub mod SameLayers
 pub mod SameAttributes
 pub mod CellsInOrder
 pub mod SameItem
+pub mod Printing
+pub mod Files
+pub mod Sample
+pub mod CompilationExamples

@@ -1,5 +1,5 @@
 -- What is wrong with a bundle: the least fault, and else a pattern that `regex` doesn't take.
-use Rattle.std.specs.Prelude.{◌≡◌, ℕ, List, [], ◌∷◌, ◌++◌, flat_map, codes, Option, Some, None, All, IfSome, IsSomeAnd, ◌⊎◌}
+use Rattle.std.specs.Prelude.{◌≡◌, List, [], ◌∷◌, ◌++◌, flat_map, codes, Option, Some, None, All, IfSome, IsSomeAnd, ◌⊎◌}
 use Rattle.std.specs.Option.{option_or}
 use Rattle.ocsf_tree.specs.LeastFault.{least_fault}
 use Rattle.ocsf_tree.specs.declared.fault.Fault.{Fault}
