@@ -14,3 +14,10 @@ pub mod Compilation
 pub mod Patterns
 pub mod Verdict
 pub mod Judgement
+pub mod Profiles
+pub mod EventClass
+pub mod Conditions
+pub mod Allowed
+pub mod Judged
+pub mod Wrong
+pub mod Violations
