@@ -34,7 +34,7 @@ use Rattle.ocsf_item.specs.Verdict.{bundle_fault}
 use Rattle.ocsf_item.proofs.Examples.{plain, member}
 use Rattle.ocsf_item.proofs.Files as of
 use Rattle.ocsf_item.proofs.Sample.{with_events, class_of_system}
-use Rattle.ocsf_item.proofs.Printing.{printing}
+use Rattle.ocsf_item.proofs.WrittenOut.{printing}
 
 abbrev core : List StoredFile → Stored
 core files = record { files = files; enabled = [] }

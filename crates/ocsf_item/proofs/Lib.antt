@@ -5,7 +5,8 @@ pub mod SameLayers
 pub mod SameAttributes
 pub mod CellsInOrder
 pub mod SameItem
-pub mod Printing
+pub mod WrittenOut
 pub mod Files
 pub mod Sample
 pub mod CompilationExamples
+pub mod EventExamples
