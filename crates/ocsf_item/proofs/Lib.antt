@@ -10,3 +10,5 @@ pub mod Files
 pub mod Sample
 pub mod CompilationExamples
 pub mod EventExamples
+pub mod LeastOfItems
+pub mod OneVerdict

@@ -14,6 +14,7 @@ pub mod Compilation
 pub mod Patterns
 pub mod Verdict
 pub mod Judgement
+pub mod VerdictLaws
 pub mod Profiles
 pub mod EventClass
 pub mod Conditions
