@@ -169,8 +169,8 @@ greatest = record {
       of.dictionary (of.word (codes "activity_id") (codes "integer_t") ∷ of.word (codes "type_uid") (codes "long_t") ∷ []) []
       ∷ of.file (codes "extensions/e/categories.json") (raw.Categories (of.category (codes "z") 99 ∷ []))
       ∷ of.item (codes "extensions/e/events/k.json") (record (of.class (codes "k")
-          (record (plain (codes "activity_id")) { members = member (codes "99") (codes "Other") ∷ [] } ∷ plain (codes "type_uid") ∷ []))
-          { caption = Some (codes "K"); category = Some (codes "z"); uid = Some 999 })
+      (record (plain (codes "activity_id")) { members = member (codes "99") (codes "Other") ∷ [] } ∷ plain (codes "type_uid") ∷ []))
+      { caption = Some (codes "K"); category = Some (codes "z"); uid = Some 999 })
       ∷ of.extension_file (codes "e") (codes "e") 999
       ∷ [];
   enabled = codes "e" ∷ [];
@@ -250,11 +250,11 @@ two_layers : Stored
 two_layers = record {
   files =
       of.dictionary
-          (record (of.word (codes "a") (codes "string_t")) { caption = Some (codes "A"); members = record { key = codes "1"; caption = codes "One"; description = Some (codes "first") } ∷ member (codes "2") (codes "Two") ∷ [] } ∷ [])
-          (record (of.type (codes "x_t") (codes "string_t")) { max_len = Some 8 } ∷ [])
+      (record (of.word (codes "a") (codes "string_t")) { caption = Some (codes "A"); members = record { key = codes "1"; caption = codes "One"; description = Some (codes "first") } ∷ member (codes "2") (codes "Two") ∷ [] } ∷ [])
+      (record (of.type (codes "x_t") (codes "string_t")) { max_len = Some 8 } ∷ [])
       ∷ of.file (codes "extensions/e/dictionary.json") (raw.Dictionary (record {
-          attributes = record (of.word (codes "a") (codes "x_t")) { members = member (codes "1") (codes "Uno") ∷ [] } ∷ [];
-          types = record (of.type (codes "x_t") (codes "integer_t")) { range = Some (record { low = pos 0; high = pos 9 }) } ∷ [];
+        attributes = record (of.word (codes "a") (codes "x_t")) { members = member (codes "1") (codes "Uno") ∷ [] } ∷ [];
+        types = record (of.type (codes "x_t") (codes "integer_t")) { range = Some (record { low = pos 0; high = pos 9 }) } ∷ [];
       }))
       ∷ of.extension_file (codes "e") (codes "e") 1
       ∷ [];

@@ -16,21 +16,39 @@ use Rattle.ocsf_item.specs.PrintedSchema.{member}
 use Rattle.ocsf_item.specs.EventClass.{class_of_event}
 use Rattle.ocsf_item.specs.Judged.{Judge, OfClass, OfAttribute, OfElement, Seen, ItemObject, object_seen, seen}
 use Rattle.ocsf_item.specs.Wrong.{ClassUnknown, AttributeUnknown, ProfileInactive, RequiredMissing, WrongType}
-use Rattle.ocsf_item.specs.Violations.{IsViolation, NoObject, NoClass, OfValue, OfMember}
+use Rattle.ocsf_item.specs.Violations.{IsViolation, NoObject, NoClass, AtValue, AtMember}
 use Rattle.ocsf_item.proofs.WrittenOut.{layers}
 
 -- ---- a schema
 
 abbrev attr : List ℕ → Target → Attr
 attr name t = record {
-  name = name; caption = None; description = None; target = t; is_array = false; requirement = Optional;
-  profile = None; group = None; sibling = None; members = [];
+  name = name;
+  caption = None;
+  description = None;
+  target = t;
+  is_array = false;
+  requirement = Optional;
+  profile = None;
+  group = None;
+  sibling = None;
+  members = [];
 }
 
 abbrev item : Item
 item = record {
-  key = key Object []; caption = None; description = None; parent = None; hidden = false; category = None;
-  category_uid = None; class_uid = None; profiles = []; at_least_one = []; just_one = []; attrs = [];
+  key = key Object [];
+  caption = None;
+  description = None;
+  parent = None;
+  hidden = false;
+  category = None;
+  category_uid = None;
+  class_uid = None;
+  profiles = [];
+  at_least_one = [];
+  just_one = [];
+  attrs = [];
 }
 
 file : Item
@@ -52,8 +70,14 @@ class = record item {
 
 schema : SchemaParts
 schema = record {
-  pieces = class ∷ file ∷ []; kinds = []; categories = tree.Null; dictionary = tree.Null;
-  extensions = tree.Null; profiles = tree.Null; types = tree.Null; version = [];
+  pieces = class ∷ file ∷ [];
+  kinds = [];
+  categories = tree.Null;
+  dictionary = tree.Null;
+  extensions = tree.Null;
+  profiles = tree.Null;
+  types = tree.Null;
+  version = [];
 }
 
 -- ---- an event
@@ -107,20 +131,20 @@ of_file = record { item = file; members = member (codes "s") (number 1) ∷ [] }
 
 inactive_profile : IsViolation schema event (Name (codes "p") ∷ []) ProfileInactive (codes "q")
 unfolding event schema class fs number files second root of_class
-inactive_profile = OfMember [] root of_class (codes "p") ProfileInactive (codes "q") (simp layers refl) (simp layers refl) (simp layers refl, (simp layers refl, refl))
+inactive_profile = AtMember [] root of_class (codes "p") ProfileInactive (codes "q") (simp layers refl) (simp layers refl) (simp layers refl, (simp layers refl, refl))
 
 null_in_a_list : IsViolation schema event (Name (codes "fs") ∷ At 0 ∷ []) WrongType (codes "object_t")
 unfolding event schema class fs number files
-null_in_a_list = OfValue (Name (codes "fs") ∷ At 0 ∷ []) (record { judge = OfElement fs; value = tree.Null }) WrongType (codes "object_t") (simp layers refl) (simp layers refl, refl)
+null_in_a_list = AtValue (Name (codes "fs") ∷ At 0 ∷ []) (record { judge = OfElement fs; value = tree.Null }) WrongType (codes "object_t") (simp layers refl) (simp layers refl, refl)
 
 missing_name : IsViolation schema event (Name (codes "fs") ∷ At 1 ∷ Name (codes "n") ∷ []) RequiredMissing []
 unfolding event schema class fs file number files second of_file
-missing_name = OfMember (Name (codes "fs") ∷ At 1 ∷ []) (record { judge = OfElement fs; value = second }) of_file (codes "n") RequiredMissing []
+missing_name = AtMember (Name (codes "fs") ∷ At 1 ∷ []) (record { judge = OfElement fs; value = second }) of_file (codes "n") RequiredMissing []
     (simp layers refl) (simp layers refl) (refl, (refl, refl), refl)
 
 unknown_member : IsViolation schema event (Name (codes "fs") ∷ At 1 ∷ Name (codes "s") ∷ []) AttributeUnknown []
 unfolding event schema class fs file number files second of_file
-unknown_member = OfMember (Name (codes "fs") ∷ At 1 ∷ []) (record { judge = OfElement fs; value = second }) of_file (codes "s") AttributeUnknown []
+unknown_member = AtMember (Name (codes "fs") ∷ At 1 ∷ []) (record { judge = OfElement fs; value = second }) of_file (codes "s") AttributeUnknown []
     (simp layers refl) (simp layers refl) (λ e. cc, simp layers refl, refl, refl)
 
 no_object : IsViolation schema (tree.List []) [] WrongType (codes "object_t")

@@ -226,7 +226,6 @@ module _ (chains layers owns : Key → List Fault)
     (low : (k : Key) → list_all (IsUpTo 32) (chains k) ≡ true)
     (after_chains : (k : Key) → list_all (IsPast 32) (layers k) ≡ true) (middle : (k : Key) → list_all (IsUpTo 41) (layers k) ≡ true)
     (past_chains : (k : Key) → list_all (IsPast 32) (owns k) ≡ true) (high : (k : Key) → list_all (IsPast 41) (owns k) ≡ true) where
-
   abbrev of_item : Key → Option Fault
   of_item k = option_or (least_fault (chains k)) (option_or (least_fault (layers k)) (least_fault (owns k)))
 
@@ -249,7 +248,7 @@ module _ (chains layers owns : Key → List Fault)
       let o_high : Holds (IsPast 41) o = of_least (IsPast 41) (owns k) (high k) in
       let os_high : Holds (IsPast 41) os = of_least (IsPast 41) (flat_map owns ks) (all_over (IsPast 41) owns high ks) in
       let parts : of_groups (k ∷ ks) ≡ option_or (join c cs) (option_or (join l ls) (join o os)) =
-          rw (least-append (chains k) (flat_map chains ks), least-append (layers k) (flat_map layers ks), least-append (owns k) (flat_map owns ks)) refl in
+      rw (least-append (chains k) (flat_map chains ks), least-append (layers k) (flat_map layers ks), least-append (owns k) (flat_map owns ks)) refl in
       parts
       ∙ ap (option_or (join c cs)) (sym (two_groups 41 l o ls os l_low o_high ls_low os_high))
       ∙ sym (two_groups 32 c (option_or l o) cs (option_or ls os) c_low (of_or (IsPast 32) l o l_past o_past) cs_low (of_or (IsPast 32) ls os ls_past os_past))
@@ -340,7 +339,7 @@ module _ (b : Looks) where
         let named = λ (w : Written). fault code.CategoryUnknown (key_text k) w.name ∷ [] in
         if_both r (is_none (category b k)) (option_map_or named (written_category b k) none) []
         (if_some r named (λ w. if_one r true (fault code.CategoryUnknown (key_text k) w.name) in_category) (written_category b k) none
-            (if_one r (is_some (uid b k)) (fault code.CategoryUnknown (key_text k) []) in_category))
+        (if_one r (is_some (uid b k)) (fault code.CategoryUnknown (key_text k) []) in_category))
         refl
 
     of_constraint : (k : Key) (name : List ℕ) → list_all r (constraint_fault b k name) ≡ true
@@ -384,8 +383,8 @@ pub least_is_of_items : LeastIsOfItems
 unfolding item_fault
 least_is_of_items b l =
     let items = by_items (chain_faults b) (layers_faults b) (own_faults b) (of_chain b)
-        (of_layers b (past 32) refl refl) (of_layers b (up_to 41) refl refl)
-        (of_own b (past 32) refl refl refl refl refl refl) (of_own b (past 41) refl refl refl refl refl refl) l.items in
+    (of_layers b (past 32) refl refl) (of_layers b (up_to 41) refl refl)
+    (of_own b (past 32) refl refl refl refl refl refl) (of_own b (past 41) refl refl refl refl refl refl) l.items in
     let schema = least_fault (schema_faults b l) in
     let chains = least_fault (flat_map (chain_faults b) l.items) in
     let layers = least_fault (flat_map (layers_faults b) l.items) in

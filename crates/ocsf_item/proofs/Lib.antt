@@ -12,3 +12,7 @@ pub mod CompilationExamples
 pub mod EventExamples
 pub mod LeastOfItems
 pub mod OneVerdict
+pub mod AllowedEvents
+pub mod Stable
+pub mod FaultlessEvents
+pub mod EmptyReports

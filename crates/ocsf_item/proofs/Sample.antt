@@ -70,7 +70,12 @@ constrained name entries one = of.item (codes "objects/" ++ name ++ codes ".json
 
 abbrev profile : List ℕ → RawAttr → StoredFile
 profile name entry = of.file (codes "profiles/" ++ name ++ codes ".json") (raw.Profile (record {
-  name = name; caption = None; description = None; group = None; requirement = None; attributes = entry ∷ [];
+  name = name;
+  caption = None;
+  description = None;
+  group = None;
+  requirement = None;
+  attributes = entry ∷ [];
 }))
 
 abbrev base_event : ItemFile
@@ -85,11 +90,11 @@ base_event = record (of.class (codes "base_event") (
     ∷ of.required (codes "type_uid")
     ∷ plain (codes "unmapped")
     ∷ [])) {
-  caption = Some (codes "Base Event");
-  category = Some (codes "other");
-  uid = Some 0;
-  includes = codes "profiles/cloud.json" ∷ codes "profiles/datetime.json" ∷ [];
-}
+      caption = Some (codes "Base Event");
+      category = Some (codes "other");
+      uid = Some 0;
+      includes = codes "profiles/cloud.json" ∷ codes "profiles/datetime.json" ∷ [];
+    }
 
 abbrev file_activity : ItemFile
 file_activity = record (of.extending (codes "system") (of.class (codes "file_activity") (
@@ -100,9 +105,9 @@ file_activity = record (of.extending (codes "system") (of.class (codes "file_act
     ∷ plain (codes "files")
     ∷ plain (codes "peer")
     ∷ []))) {
-  caption = Some (codes "File System Activity");
-  uid = Some 1;
-}
+      caption = Some (codes "File System Activity");
+      uid = Some 1;
+    }
 
 -- another core class of that category with the number of the first
 abbrev pub class_of_system : List ℕ → ItemFile

@@ -1,5 +1,5 @@
 -- What is asked of a single value, of an object, and of an event as a whole.
-use Rattle.std.specs.Prelude.{◌≡◌, ℕ, ℤ, pos, ◌+ℤ◌, ◌*◌, ◌==◌, ◌&&◌, Bool, true, false, List, [], ◌∷◌, map, filter, length, codes, Option, Some, None, is_some, is_ok, IfSome, All, ⊤}
+use Rattle.std.specs.Prelude.{◌≡◌, ℕ, ℤ, pos, ◌+ℤ◌, ◌*◌, ◌==◌, ◌&&◌, Bool, true, false, List, [], ◌∷◌, map, filter, length, codes, Option, Some, None, is_some, is_ok, IfSome, IsSome, All, ⊤}
 use Rattle.std.specs.Fmt.{signed_decimal}
 use Rattle.jiff.specs.Words.{parse_timestamp}
 use Rattle.ocsf_tree.specs.declared.tree.Tree.{Tree, out-Tree}
@@ -18,7 +18,7 @@ use Rattle.ocsf_kind.specs.Accepted.{FitsBase, Meets}
 use Rattle.ocsf_kind.specs.declared.accepted.Which.TheVariants.{MaxLen, Range, Values}
 use Rattle.ocsf_item.specs.Patterns.{is_found}
 use Rattle.ocsf_item.specs.Profiles.{is_in_force, is_profile, named_profiles}
-use Rattle.ocsf_item.specs.EventClass.{is_null, value_of, whole_of}
+use Rattle.ocsf_item.specs.EventClass.{is_null, value_of, whole_of, attribute_named}
 
 -- ---- of a single value
 
@@ -78,7 +78,8 @@ is_present members attr = is_some (value_of attr.name members)
 -- each required attribute that is in force is there
 abbrev pub HasRequired : List (List ℕ) → Item → List Member → Type 0
 HasRequired profiles item members =
-    All (λ attr. attr.requirement ≡ Required → is_in_force profiles attr ≡ true → is_present members attr ≡ true) item.attrs
+    (name : List ℕ) (attr : Attr) → attribute_named item name ≡ Some attr → is_in_force profiles attr ≡ true → attr.requirement ≡ Required
+    → IsSome (value_of name members)
 
 -- the listed attributes that are in force, each once
 abbrev pub listed_in_force : List (List ℕ) → Item → List (List ℕ) → List Attr

@@ -74,7 +74,7 @@ element_of position attr value =
 
 abbrev pub element_seen : ℕ → Seen → Option Seen
 element_seen position here = elim here.judge as (λ judge. Option Seen) [
-  OfClass class ↦ None
+  | OfClass class ↦ None
   | OfAttribute attr ↦ element_of position attr here.value
   | OfElement attr ↦ None
 ]

@@ -22,3 +22,4 @@ pub mod Allowed
 pub mod Judged
 pub mod Wrong
 pub mod Violations
+pub mod EventLaws

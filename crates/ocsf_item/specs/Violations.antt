@@ -126,15 +126,15 @@ pub data IsViolation (schema : SchemaParts) (event : Tree) : List Step → Wrong
   -- it is one of no class
   NoClass : (members : List Member) → as_object event ≡ Some members → class_of schema members ≡ None
       → IsViolation schema event (Name (codes "class_uid") ∷ []) ClassUnknown (whole_text (whole_of (codes "class_uid") members))
-  OfValue : (place : List Step) (here : Seen) (code : Wrong) (detail : List ℕ) → seen schema event place ≡ Some here
+  AtValue : (place : List Step) (here : Seen) (code : Wrong) (detail : List ℕ) → seen schema event place ≡ Some here
       → IsWrongValue schema here code detail → IsViolation schema event place code detail
-  OfMember : (place : List Step) (here : Seen) (object : ItemObject) (name : List ℕ) (code : Wrong) (detail : List ℕ)
+  AtMember : (place : List Step) (here : Seen) (object : ItemObject) (name : List ℕ) (code : Wrong) (detail : List ℕ)
       → seen schema event place ≡ Some here → object_seen schema here ≡ Some object
       → IsWrongMember (named_profiles event) object name code detail → IsViolation schema event (place ++ Name name ∷ []) code detail
-  OfObject : (place : List Step) (here : Seen) (object : ItemObject) (code : Wrong) (detail : List ℕ)
+  AtObject : (place : List Step) (here : Seen) (object : ItemObject) (code : Wrong) (detail : List ℕ)
       → seen schema event place ≡ Some here → object_seen schema here ≡ Some object
       → IsWrongObject (named_profiles event) object code detail → IsViolation schema event place code detail
-  OfEvent : (members : List Member) (class : Item) (number : ℕ) (place : List Step) (code : Wrong) (detail : List ℕ)
+  OnEvent : (members : List Member) (class : Item) (number : ℕ) (place : List Step) (code : Wrong) (detail : List ℕ)
       → as_object event ≡ Some members → class_of schema members ≡ Some class → class.class_uid ≡ Some number
       → IsWrongEvent schema event number members place code detail → IsViolation schema event place code detail
 

@@ -2,9 +2,14 @@
 //! fault.
 #![tactic(auto)]
 
+mod event_laws;
 mod laws;
 mod verdict_laws;
 
+pub use event_laws::{
+    a_report_is_empty_where_the_event_is_allowed, an_allowed_event_has_no_violation,
+    an_event_without_violations_is_allowed,
+};
 pub use laws::{
     same_looks_give_the_same_attribute, same_looks_give_the_same_category,
     same_looks_give_the_same_chain, same_looks_give_the_same_item, same_looks_give_the_same_layers,
