@@ -32,7 +32,7 @@ use Rattle.ocsf_item.specs.SchemaFaults.{schema_faults, uid_clash}
 use Rattle.ocsf_item.specs.Compilation.{compilation}
 use Rattle.ocsf_item.specs.Verdict.{bundle_fault}
 use Rattle.ocsf_item.proofs.Examples.{plain, member}
-use Rattle.ocsf_item.proofs.Files as of
+use Rattle.ocsf_item.proofs.SampleFiles as of
 use Rattle.ocsf_item.proofs.Sample.{with_events, class_of_system}
 use Rattle.ocsf_item.proofs.WrittenOut.{printing}
 

@@ -1,55 +1,48 @@
--- Files for examples, each of what it says alone.
-use Rattle.std.specs.Prelude.{ℕ, List, [], ◌++◌, codes, Some, None}
-use Rattle.ocsf_tree.specs.declared.key.Side.TheVariants.{Class, Object}
-use Rattle.ocsf_tree.specs.declared.attribute.Requirement.TheVariants.{Required}
+-- What a file says, part by part, and files one after another.
+use Rattle.std.proofs.Common.{◌≡◌, ℕ, ◌+◌, ◌<◌, List, [], ◌∷◌, ◌++◌, map, take, length, subst, arith}
+use Rattle.std.specs.Prelude.{flat_map, slice_index_or}
+use Rattle.std.proofs.lemmas.List.{length-map}
 use Rattle.ocsf_raw.specs.declared.attribute.RawAttr.{RawAttr}
-use Rattle.ocsf_raw.specs.declared.dictionary.DictEntry.{DictEntry}
-use Rattle.ocsf_raw.specs.declared.dictionary.TypeEntry.{TypeEntry}
-use Rattle.ocsf_raw.specs.declared.files.CategoryEntry.{CategoryEntry}
-use Rattle.ocsf_raw.specs.declared.files.ItemFile.{ItemFile}
-use Rattle.ocsf_raw.specs.declared.files.RawFile.{RawFile}
-use Rattle.ocsf_raw.specs.declared.files.RawFile.TheVariants as raw
-use Rattle.ocsf_bundle.specs.declared.stored.StoredFile.{StoredFile}
-use Rattle.ocsf_item.proofs.Examples.{plain, bare, extension}
+use Rattle.ocsf_bundle.specs.Looks.{Looks}
+use Rattle.ocsf_item.specs.declared.walk.Walk.{Walk}
+use Rattle.ocsf_item.specs.declared.speakers.Speaker.{Speaker as Lent}
+use Rattle.ocsf_item.specs.Chain.{Speaker, include_layer, listed_layer, plain_layer, layers_of}
+use Rattle.ocsf_item.specs.ItemFaults.{entry_fault, include_faults, listed_faults, speaker_faults}
+use Rattle.ocsf_item.specs.Reads.{entry_reads, include_reads, listed_reads, speaker_reads}
+use Rattle.ocsf_item.specs.Speakers.{speaker_of}
+use Rattle.ocsf_item.specs.Walk.{Hears}
+use Rattle.ocsf_item.proofs.Hearings.{hears_then, hears_more}
+use Rattle.ocsf_item.proofs.Lists.{map-at}
 
-abbrev pub file : List ℕ → RawFile → StoredFile
-file path content = record { path = path; text = []; raw = content }
+module _ (b : Looks) (s : Speaker) (w₀ w₁ w₂ w₃ : Walk) where
+  Heard : List ℕ → List (List ℕ) → List (List ℕ) → List RawAttr → Type 0
+  Heard ext includes profiles entries =
+      Hears w₀ w₃
+      (flat_map (include_layer b ext) includes ++ flat_map (listed_layer b ext) profiles ++ plain_layer ext entries ∷ [])
+      (flat_map (include_reads b ext) includes ++ flat_map (listed_reads b ext) profiles ++ flat_map (entry_reads b ext) entries)
+      (flat_map (include_faults b s.by ext) includes ++ flat_map (listed_faults b s.by ext) profiles ++ flat_map (entry_fault b s.by ext) entries)
 
--- ---- dictionaries
+  pub file_heard : (ext : List ℕ) (includes profiles : List (List ℕ)) (entries : List RawAttr) → ext ≡ s.ext → includes ≡ s.file.includes → profiles ≡ s.file.profiles → entries ≡ s.file.attributes
+      → Hears w₀ w₁ (flat_map (include_layer b ext) includes) (flat_map (include_reads b ext) includes) (flat_map (include_faults b s.by ext) includes)
+      → Hears w₁ w₂ (flat_map (listed_layer b ext) profiles) (flat_map (listed_reads b ext) profiles) (flat_map (listed_faults b s.by ext) profiles)
+      → Hears w₂ w₃ (plain_layer ext entries ∷ []) (flat_map (entry_reads b ext) entries) (flat_map (entry_fault b s.by ext) entries)
+      → Hears w₀ w₃ (layers_of b s) (speaker_reads b s) (speaker_faults b s)
+  unfolding Heard
+  file_heard ext includes profiles entries e i p a one two three =
+      let front = hears_then w₀ w₁ w₂ (flat_map (include_layer b ext) includes) (flat_map (listed_layer b ext) profiles) (flat_map (include_reads b ext) includes) (flat_map (listed_reads b ext) profiles)
+      (flat_map (include_faults b s.by ext) includes) (flat_map (listed_faults b s.by ext) profiles) one two in
+      let all = hears_then w₀ w₂ w₃ (flat_map (include_layer b ext) includes ++ flat_map (listed_layer b ext) profiles) (plain_layer ext entries ∷ [])
+      (flat_map (include_reads b ext) includes ++ flat_map (listed_reads b ext) profiles) (flat_map (entry_reads b ext) entries)
+      (flat_map (include_faults b s.by ext) includes ++ flat_map (listed_faults b s.by ext) profiles) (flat_map (entry_fault b s.by ext) entries) front three in
+      subst (λ x. Heard x s.file.includes s.file.profiles s.file.attributes) e
+      (subst (λ x. Heard ext x s.file.profiles s.file.attributes) i
+      (subst (λ x. Heard ext includes x s.file.attributes) p
+      (subst (λ x. Heard ext includes profiles x) a all)))
 
-abbrev pub word : List ℕ → List ℕ → DictEntry
-word name t = record { name = name; caption = None; description = None; type_name = Some t; is_array = None; members = []; sibling = None }
-
-abbrev pub type : List ℕ → List ℕ → TypeEntry
-type name parent = record { name = name; caption = None; description = None; parent = Some parent; pattern = None; range = None; max_len = None; values = None }
-
-abbrev pub dictionary : List DictEntry → List TypeEntry → StoredFile
-dictionary attributes types = file (codes "dictionary.json") (raw.Dictionary (record { attributes = attributes; types = types }))
-
--- ---- items
-
-abbrev pub object : List ℕ → List RawAttr → ItemFile
-object name entries = bare Object name entries
-
-abbrev pub class : List ℕ → List RawAttr → ItemFile
-class name entries = bare Class name entries
-
-abbrev pub extending : List ℕ → ItemFile → ItemFile
-extending parent item = record item { parent = Some parent }
-
-abbrev pub required : List ℕ → RawAttr
-required name = record (plain name) { requirement = Some Required }
-
-abbrev pub item : List ℕ → ItemFile → StoredFile
-item path content = file path (raw.Item content)
-
--- ---- categories and extensions
-
-abbrev pub category : List ℕ → ℕ → CategoryEntry
-category name uid = record { name = name; caption = None; description = None; uid = uid }
-
-abbrev pub categories : List CategoryEntry → StoredFile
-categories entries = file (codes "categories.json") (raw.Categories entries)
-
-abbrev pub extension_file : List ℕ → List ℕ → ℕ → StoredFile
-extension_file folder name uid = file (codes "extensions/" ++ folder ++ codes "/extension.json") (raw.Extension (extension name uid))
+pub files_more : (b : Looks) (files : List Lent) (i : ℕ) (file : Lent) (u v w : Walk) → i < length files → file ≡ slice_index_or files i file
+    → Hears u v (flat_map (layers_of b) (take i (map speaker_of files))) (flat_map (speaker_reads b) (take i (map speaker_of files))) (flat_map (speaker_faults b) (take i (map speaker_of files)))
+    → Hears v w (layers_of b (speaker_of file)) (speaker_reads b (speaker_of file)) (speaker_faults b (speaker_of file))
+    → Hears u w (flat_map (layers_of b) (take (i + 1) (map speaker_of files))) (flat_map (speaker_reads b) (take (i + 1) (map speaker_of files))) (flat_map (speaker_faults b) (take (i + 1) (map speaker_of files)))
+files_more b files i file u v w h is before now =
+    let within : i < length (map speaker_of files) = omega (arith, length-map files speaker_of) in
+    hears_more (layers_of b) (speaker_reads b) (speaker_faults b) (map speaker_of files) i (speaker_of file) u v w within (map-at speaker_of files i file h is) before now

@@ -7,6 +7,7 @@ pub mod CellsInOrder
 pub mod SameItem
 pub mod WrittenOut
 pub mod Files
+pub mod SampleFiles
 pub mod Sample
 pub mod CompilationExamples
 pub mod EventExamples
@@ -16,3 +17,17 @@ pub mod AllowedEvents
 pub mod Stable
 pub mod FaultlessEvents
 pub mod EmptyReports
+pub mod Slashes
+pub mod Chains
+pub mod Lists
+pub mod Speeches
+pub mod Hearings
+pub mod DictLayers
+pub mod Givings
+pub mod Cycles
+pub mod Ordered
+pub mod Joinings
+pub mod Leasts
+pub mod ClassParts
+pub mod Assembling
+pub mod AttrsByName

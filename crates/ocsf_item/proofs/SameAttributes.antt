@@ -11,8 +11,9 @@ use Rattle.ocsf_schema.specs.declared.records.Target.TheVariants as target
 use Rattle.ocsf_bundle.specs.Looks.{Looks, look, is_there}
 use Rattle.ocsf_bundle.specs.declared.cells.Cell.TheVariants as cell
 use Rattle.ocsf_merge.specs.declared.spoken.Spoken.{Spoken}
+use Rattle.ocsf_item.specs.declared.dictionary.TypeSaid.{TypeSaid}
 use Rattle.ocsf_item.specs.Names.{item_at, tried}
-use Rattle.ocsf_item.specs.Attribute.{TypeSaid, dict_said, type_of, members_of, profile_of, is_base_type, is_data_type, object_cells, object_named, open_object, target_named, target_of, attr_from, attr_of}
+use Rattle.ocsf_item.specs.Attribute.{dict_said, type_of, members_of, profile_of, is_base_type, is_data_type, object_cells, object_named, open_object, target_named, target_of, attr_from, attr_of}
 use Rattle.ocsf_item.specs.Compiled.{enumeration}
 use Rattle.ocsf_item.specs.ItemFaults.{fault, type_text}
 use Rattle.ocsf_item.specs.Reads.{mark_reads, type_reads, profile_reads, attribute_reads}

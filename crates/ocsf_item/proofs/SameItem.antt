@@ -18,10 +18,11 @@ use Rattle.ocsf_bundle.specs.CellOrder.{cell_cmp}
 use Rattle.ocsf_kind.specs.Numbers.{class_uid}
 use Rattle.ocsf_merge.specs.declared.spoken.Spoken.{Spoken}
 use Rattle.ocsf_merge.specs.Table.{table_of}
+use Rattle.ocsf_item.specs.declared.category.Written.{Written}
 use Rattle.ocsf_item.specs.Names.{first_of, ext_of, tried, category_cells}
 use Rattle.ocsf_item.specs.Chain.{own_file, written_parent, parent, keys_up, chain, speakers_of, speakers, layers}
 use Rattle.ocsf_item.specs.Attribute.{attr_of}
-use Rattle.ocsf_item.specs.Compiled.{is_class, uid, is_hidden, starts_low, last_given, caption, description, at_least_one, just_one, Written, written_in, written_category, category_at, category_named, category, category_number, written_uid, ext_uid, class_number, row_of, enumeration, activities, numbered, computed, profile_keys, item}
+use Rattle.ocsf_item.specs.Compiled.{is_class, uid, is_hidden, starts_low, last_given, caption, description, at_least_one, just_one, written_in, written_category, category_of, category_at, category_named, category, category_number, ext_uid, class_number, row_of, enumeration, activities, numbered, computed, profile_keys, item}
 use Rattle.ocsf_item.specs.ItemFaults.{fault, same_key, cycle_in, lesser_key, least_key, cycle_fault, parent_fault, limit_fault, faults_along, chain_faults, attribute_fault, category_fault, constraint_fault, activity_fault, size_fault, own_faults, item_fault}
 use Rattle.ocsf_item.specs.InOrder.{in_order}
 use Rattle.ocsf_item.specs.Reads.{ext_reads, key_reads, speaker_reads, attribute_reads, category_reads, cells_read, reads}
@@ -118,7 +119,7 @@ module _ (b c : Looks) where
     -- ---- the category
 
     same_category_at : (x : Cell) → look b x ≡ look c x → category_at b x ≡ category_at c x
-    same_category_at (cell.Category key) e = ap (λ cs. option_map (λ part. record { key = key; part = part }) (first_of cs)) (same_categories b c key e)
+    same_category_at (cell.Category key) e = ap (λ cs. option_map (category_of key) (first_of cs)) (same_categories b c key e)
     same_category_at x e = refl
 
     tried_for : Looks → Written → List Cell
@@ -174,7 +175,7 @@ module _ (b c : Looks) where
     the_category = same_category k keys categorized
 
     same_class_number : class_number b k ≡ class_number c k
-    same_class_number = λ i. option_and_then (λ u. option_map (λ d. class_uid (same_ext_uid (ext_of k.name) at_ext i) (written_uid d.part) u) (the_category i)) (same_uid k keys i)
+    same_class_number = λ i. option_and_then (λ u. option_map (λ d. class_uid (same_ext_uid (ext_of k.name) at_ext i) d.uid u) (the_category i)) (same_uid k keys i)
 
     same_row_of : (name : List ℕ) → row_of b k name ≡ row_of c k name
     same_row_of name = ap (at_name (λ s. s.attr.name) name) rows
@@ -205,7 +206,7 @@ module _ (b c : Looks) where
           parent = option_map (λ p. p.name) (same_parent b c k (here k keys) i);
           hidden = same_hidden k keys i;
           category = option_map (λ d. d.key) (the_category i);
-          category_uid = option_map (λ d. category_number d.part) (the_category i);
+          category_uid = option_map (λ d. category_number d) (the_category i);
           class_uid = same_class_number i;
           profiles = first_of_each (λ p. p) (profile_keys (all_layers i));
           at_least_one = same_at_least_one k keys i;
@@ -218,7 +219,7 @@ module _ (b c : Looks) where
     same_cells =
         let attributes = same_flat_map (attribute_reads b (ext_of k.name)) (attribute_reads c (ext_of k.name)) (table_of (layers b k)) (at_rows (λ s. attribute_reads b (ext_of k.name) s ≡ attribute_reads c (ext_of k.name) s) (same_attribute_reads b c (ext_of k.name)))
         ∙ ap (flat_map (attribute_reads c (ext_of k.name))) rows in
-        λ i. ext_reads (ext_of k.name) ++ same_chain_reads b c k keys i ++ same_layers_reads b c k keys heard i ++ attributes i ++ same_category_reads k keys categorized i
+        λ i. ext_reads (ext_of k.name) ++ same_chain_reads b c k keys i ++ same_layers_reads b c k keys heard i ++ same_category_reads k keys categorized i ++ attributes i
 
     constrained : List (List ℕ) → List Fault
     constrained names = flat_map (constraint_fault b k) names
@@ -235,11 +236,11 @@ module _ (b c : Looks) where
         let attributes = same_flat_map (attribute_fault b k) (attribute_fault c k) (table_of (layers b k))
         (at_rows (λ s. attribute_fault b k s ≡ attribute_fault c k s) (λ s a. same_attribute_fault b c k (ext_of k.name) s (same_dict_entries b c (ext_of k.name) s a) (same_target b c (ext_of k.name) s a)))
         ∙ ap (flat_map (attribute_fault c k)) rows in
-        λ i. attributes i
+        λ i. (if is_some (same_uid k keys i) then flat_map (activity_fault k) (same_activities i) else [])
         ++ same_category_fault k keys categorized i
+        ++ attributes i
         ++ (same_constraints (at_least_one b k) ∙ ap (flat_map (constraint_fault c k)) (same_at_least_one k keys)) i
         ++ (same_constraints (just_one b k) ∙ ap (flat_map (constraint_fault c k)) (same_just_one k keys)) i
-        ++ (if is_some (same_uid k keys i) then flat_map (activity_fault k) (same_activities i) else [])
         ++ size_fault k (rows i)
 
     pub same_item_fault : item_fault b k ≡ item_fault c k
@@ -258,14 +259,14 @@ module _ (b c : Looks) where
         let ss = flat_map (speaker_reads b) (speakers b k) in
         let as' = flat_map (attribute_reads b (ext_of k.name)) (table_of (layers b k)) in
         let cs = category_reads b k in
-        let four = left (λ x. look b x ≡ look c x) (e ++ ks ++ ss ++ as') cs agree in
-        let three = left (λ x. look b x ≡ look c x) (e ++ ks ++ ss) as' four in
+        let four = left (λ x. look b x ≡ look c x) (e ++ ks ++ ss ++ cs) as' agree in
+        let three = left (λ x. look b x ≡ look c x) (e ++ ks ++ ss) cs four in
         let two = left (λ x. look b x ≡ look c x) (e ++ ks) ss three in
         let at_ext = left (λ x. look b x ≡ look c x) e ks two in
         let keys = right (λ x. look b x ≡ look c x) e ks two in
         let heard = right (λ x. look b x ≡ look c x) (e ++ ks) ss three in
-        let joined = right (λ x. look b x ≡ look c x) (e ++ ks ++ ss) as' four in
-        let categorized = right (λ x. look b x ≡ look c x) (e ++ ks ++ ss ++ as') cs agree in
+        let categorized = right (λ x. look b x ≡ look c x) (e ++ ks ++ ss) cs four in
+        let joined = right (λ x. look b x ≡ look c x) (e ++ ks ++ ss ++ cs) as' agree in
         (same_item k at_ext keys heard joined categorized, ap (in_order cell_cmp) (same_cells k at_ext keys heard joined categorized), same_item_fault k at_ext keys heard joined categorized)
 
   pub from_reads : (k : Key) → Agree b c (reads b k) → (item b k ≡ item c k) × (reads b k ≡ reads c k) × (item_fault b k ≡ item_fault c k)

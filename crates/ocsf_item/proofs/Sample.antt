@@ -6,7 +6,7 @@ use Rattle.ocsf_raw.specs.declared.files.ItemFile.{ItemFile}
 use Rattle.ocsf_raw.specs.declared.files.RawFile.TheVariants as raw
 use Rattle.ocsf_bundle.specs.declared.stored.StoredFile.{StoredFile}
 use Rattle.ocsf_item.proofs.Examples.{plain, member}
-use Rattle.ocsf_item.proofs.Files as of
+use Rattle.ocsf_item.proofs.SampleFiles as of
 
 -- ---- the dictionary
 

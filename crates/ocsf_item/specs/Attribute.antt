@@ -16,6 +16,8 @@ use Rattle.ocsf_bundle.specs.Looks.{Looks, is_there, DictOf}
 use Rattle.ocsf_bundle.specs.declared.cells.Cell.{Cell}
 use Rattle.ocsf_merge.specs.declared.spoken.Spoken.{Spoken}
 use Rattle.ocsf_kind.specs.Kinds.{base_of}
+use Rattle.ocsf_item.specs.declared.dictionary.DictSaid.{DictSaid}
+use Rattle.ocsf_item.specs.declared.dictionary.TypeSaid.{TypeSaid}
 use Rattle.ocsf_item.specs.Names.{has_slash, in_extension, exists_cell, found, item_at, profile_named}
 
 -- ---- the dictionary
@@ -29,23 +31,11 @@ first_said field (d ∷ ds) = option_or (field d) (first_said field ds)
 abbrev pub last_said : {X : Type 0} → (DictOf → Option X) → List DictOf → Option X
 last_said field ds = first_said field (reverse ds)
 
--- a type as it is written, and the extension whose layer or dictionary gives it
-pub record TypeSaid : Type 0 where
-  pub name : List ℕ
-  pub from : List ℕ
-
+-- a type as it is written in a layer or a dictionary of that extension
 abbrev pub type_said_in : List ℕ → Option (List ℕ) → Option TypeSaid
 type_said_in ext written = option_map (λ name. record { name = name; from = ext }) written
 
 -- what the dictionaries say of an attribute, the last layer before those before it
-pub record DictSaid : Type 0 where
-  pub caption : Option (List ℕ)
-  pub description : Option (List ℕ)
-  pub type_said : Option TypeSaid
-  pub is_array : Option Bool
-  pub sibling : Option (List ℕ)
-  pub members : List EnumMember
-
 abbrev pub dict_said : List DictOf → DictSaid
 dict_said ds = record {
   caption = last_said (λ d. d.entry.caption) ds;

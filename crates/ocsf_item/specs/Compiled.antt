@@ -18,6 +18,9 @@ use Rattle.ocsf_merge.specs.declared.spoken.Spoken.{Spoken}
 use Rattle.ocsf_merge.specs.Layers.{Layer}
 use Rattle.ocsf_merge.specs.Table.{table_of}
 use Rattle.ocsf_kind.specs.Numbers.{category_uid, class_uid, type_uid}
+use Rattle.ocsf_item.specs.declared.category.Category.{Category}
+use Rattle.ocsf_item.specs.declared.category.Written.{Written}
+use Rattle.ocsf_item.specs.declared.computed.Numbered.{Numbered}
 use Rattle.ocsf_item.specs.Names.{first_of, ext_of, found, category_cells}
 use Rattle.ocsf_item.specs.Chain.{Speaker, speakers, speakers_of, layers, own_file, parent}
 use Rattle.ocsf_item.specs.Attribute.{attr_of, dict_said, members_of}
@@ -66,11 +69,7 @@ is_hidden b k = if is_class k then is_none (uid b k) else option_map_or starts_l
 
 -- ---- the category
 
--- a category as it is written, in a file of that extension
-pub record Written : Type 0 where
-  pub name : List ℕ
-  pub ext : List ℕ
-
+-- a category as a file writes it
 abbrev pub written_in : Speaker → Option Written
 written_in s = option_map (λ name. record { name = name; ext = s.ext }) s.file.category
 
@@ -78,12 +77,13 @@ written_in s = option_map (λ name. record { name = name; ext = s.ext }) s.file.
 abbrev pub written_category : Looks → Key → Option Written
 written_category b k = if is_class k then last_given written_in (speakers b k) else None
 
-pub record Category : Type 0 where
-  pub key : List ℕ
-  pub part : CategoryOf
+-- the built-in category, or one that is listed
+abbrev pub category_of : List ℕ → CategoryOf → Category
+category_of key BuiltIn = record { key = key; ext_uid = 0; uid = 0; caption = Some (codes "Uncategorized") }
+category_of key (Listed ext entry) = record { key = key; ext_uid = ext; uid = entry.uid; caption = entry.caption }
 
 abbrev pub category_at : Looks → Cell → Option Category
-category_at b (cell.Category c) = option_map (λ part. record { key = c; part = part }) (first_of (b.categories c))
+category_at b (cell.Category c) = option_map (category_of c) (first_of (b.categories c))
 category_at b _ = None
 
 abbrev pub category_named : Looks → Written → Option Category
@@ -94,22 +94,8 @@ category b k = option_and_then (category_named b) (written_category b k)
 
 -- ---- numbers
 
--- the uid that is written for the category
-abbrev pub written_uid : CategoryOf → ℕ
-written_uid BuiltIn = 0
-written_uid (Listed ext entry) = entry.uid
-
--- the uid of the category's extension, 0 for core
-abbrev pub ext_uid_of : CategoryOf → ℕ
-ext_uid_of BuiltIn = 0
-ext_uid_of (Listed ext entry) = ext
-
-abbrev pub category_caption : CategoryOf → Option (List ℕ)
-category_caption BuiltIn = Some (codes "Uncategorized")
-category_caption (Listed ext entry) = entry.caption
-
-abbrev pub category_number : CategoryOf → ℕ
-category_number c = category_uid (ext_uid_of c) (written_uid c)
+abbrev pub category_number : Category → ℕ
+category_number c = category_uid c.ext_uid c.uid
 
 -- the uid of the item's extension, 0 for core
 abbrev pub ext_uid : Looks → List ℕ → ℕ
@@ -117,7 +103,7 @@ ext_uid b [] = 0
 ext_uid b (c ∷ ext) = option_map_or (λ file. file.uid) (first_of (b.exts (c ∷ ext))) 0
 
 abbrev pub class_number : Looks → Key → Option ℕ
-class_number b k = option_and_then (λ u. option_map (λ c. class_uid (ext_uid b (ext_of k.name)) (written_uid c.part) u) (category b k)) (uid b k)
+class_number b k = option_and_then (λ u. option_map (λ c. class_uid (ext_uid b (ext_of k.name)) c.uid u) (category b k)) (uid b k)
 
 -- ---- computed enumerations
 
@@ -143,7 +129,7 @@ abbrev pub class_members : ℕ → List ℕ → List EnumMember
 class_members number caption = bare_member (decimal number) caption ∷ []
 
 abbrev pub category_members : Category → List EnumMember
-category_members c = bare_member (decimal (category_number c.part)) (unwrap_or (category_caption c.part) c.key) ∷ []
+category_members c = bare_member (decimal (category_number c)) (unwrap_or c.caption c.key) ∷ []
 
 -- for an activity the number of the class and the activity, with both captions
 abbrev pub type_member : ℕ → List ℕ → EnumMember → EnumMember
@@ -153,14 +139,7 @@ type_member number caption activity =
 abbrev pub type_members : ℕ → List ℕ → List EnumMember → List EnumMember
 type_members number caption activities = first_of_each (λ m. m.key) (map (type_member number caption) activities)
 
--- what the enumerations of a class are computed from
-pub record Numbered : Type 0 where
-  pub number : ℕ
-  pub caption : List ℕ
-  pub category : Category
-  pub activities : List EnumMember
-
--- a class that isn't hidden and has a category
+-- what the enumerations are computed from, in a class that isn't hidden and has a category
 abbrev pub numbered : Looks → Key → Option Numbered
 numbered b k =
     option_and_then (λ number. option_map (λ c. record { number = number; caption = caption_or_key b k; category = c; activities = activities b k }) (category b k)) (class_number b k)
@@ -189,7 +168,7 @@ item b k = record {
   parent = option_map (λ p. p.name) (parent b k);
   hidden = is_hidden b k;
   category = option_map (λ c. c.key) (category b k);
-  category_uid = option_map (λ c. category_number c.part) (category b k);
+  category_uid = option_map (λ c. category_number c) (category b k);
   class_uid = class_number b k;
   profiles = first_of_each (λ p. p) (profile_keys (layers b k));
   at_least_one = at_least_one b k;

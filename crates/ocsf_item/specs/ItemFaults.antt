@@ -12,7 +12,8 @@ use Rattle.ocsf_tree.specs.declared.fault.Fault.{Fault}
 use Rattle.ocsf_tree.specs.declared.fault.Code.{Code}
 use Rattle.ocsf_tree.specs.declared.fault.Code.TheVariants as code
 use Rattle.ocsf_tree.specs.declared.attribute.EnumMember.{EnumMember}
-use Rattle.ocsf_tree.specs.ByName.{text_cmp}
+use Rattle.ocsf_tree.specs.ByName.{text_cmp, at_name}
+use Rattle.ocsf_schema.specs.declared.records.Target.{Target}
 use Rattle.ocsf_tree.specs.Key.{key_text}
 use Rattle.ocsf_tree.specs.LeastFault.{least_fault}
 use Rattle.ocsf_raw.specs.declared.attribute.RawAttr.{RawAttr}
@@ -22,10 +23,13 @@ use Rattle.ocsf_bundle.specs.Looks.{Looks, is_there}
 use Rattle.ocsf_merge.specs.declared.spoken.Spoken.{Spoken}
 use Rattle.ocsf_merge.specs.Layers.{Layer}
 use Rattle.ocsf_merge.specs.Table.{table_of}
+use Rattle.ocsf_item.specs.declared.dictionary.TypeSaid.{TypeSaid}
+use Rattle.ocsf_item.specs.declared.category.Category.{Category}
+use Rattle.ocsf_item.specs.declared.category.Written.{Written}
 use Rattle.ocsf_item.specs.Names.{ext_of, found, profile_cells, include_cells}
 use Rattle.ocsf_item.specs.Chain.{chain, written_parent, parent, Speaker, speakers, layers, include_layer, listed_layer}
-use Rattle.ocsf_item.specs.Attribute.{TypeSaid, dict_said, type_of, target_of}
-use Rattle.ocsf_item.specs.Compiled.{is_class_side, uid, written_category, category, at_least_one, just_one, row_of, activities}
+use Rattle.ocsf_item.specs.Attribute.{dict_said, type_of, target_of}
+use Rattle.ocsf_item.specs.Compiled.{is_class_side, uid, written_category, category, at_least_one, just_one, activities}
 
 abbrev pub fault : Code → List ℕ → List ℕ → Fault
 fault code subject name = record { code = code; subject = subject; name = name }
@@ -113,25 +117,35 @@ layers_faults b k = flat_map (speaker_faults b) (speakers b k)
 abbrev pub type_text : Option TypeSaid → List ℕ
 type_text t = option_map_or (λ t. t.name) t []
 
+-- of an attribute of that name that is in the dictionary or isn't, and whose type leads there
+abbrev pub leads_fault : Key → List ℕ → Bool → Option Target → Option TypeSaid → List Fault
+leads_fault k name there target t =
+    if there
+    then (if is_some target then [] else fault code.KindUnknown (key_text k) (name ++ codes " " ++ type_text t) ∷ [])
+    else fault code.AttributeUnknown (key_text k) name ∷ []
+
 -- the attribute isn't in the dictionary, or its type leads nowhere
 abbrev pub attribute_fault : Looks → Key → Spoken → List Fault
-attribute_fault b k s =
-    let name = s.attr.name in
-    if is_there (b.dict name)
-    then (if is_some (target_of b (ext_of k.name) s) then []
-    else fault code.KindUnknown (key_text k) (name ++ codes " " ++ type_text (type_of (dict_said (b.dict name)) s)) ∷ [])
-    else fault code.AttributeUnknown (key_text k) name ∷ []
+attribute_fault b k s = leads_fault k s.attr.name (is_there (b.dict s.attr.name)) (target_of b (ext_of k.name) s) (type_of (dict_said (b.dict s.attr.name)) s)
+
+-- of a class with that category, the one that is written, and that number
+abbrev pub missing_category : Key → Option Category → Option Written → Option ℕ → List Fault
+missing_category k category written uid =
+    if is_none category
+    then option_map_or (λ w. fault code.CategoryUnknown (key_text k) w.name ∷ []) written
+    (if is_some uid then fault code.CategoryUnknown (key_text k) [] ∷ [] else [])
+    else []
 
 -- a class's category isn't there, or a class with a number has none
 abbrev pub category_fault : Looks → Key → List Fault
-category_fault b k =
-    if is_none (category b k)
-    then option_map_or (λ w. fault code.CategoryUnknown (key_text k) w.name ∷ []) (written_category b k)
-    (if is_some (uid b k) then fault code.CategoryUnknown (key_text k) [] ∷ [] else [])
-    else []
+category_fault b k = missing_category k (category b k) (written_category b k) (uid b k)
+
+-- a constraint names an attribute that has no row
+abbrev pub absent_fault : Key → List Spoken → List ℕ → List Fault
+absent_fault k rows name = if is_some (at_name (λ s. s.attr.name) name rows) then [] else fault code.ConstraintUnknown (key_text k) name ∷ []
 
 abbrev pub constraint_fault : Looks → Key → List ℕ → List Fault
-constraint_fault b k name = if is_some (row_of b k name) then [] else fault code.ConstraintUnknown (key_text k) name ∷ []
+constraint_fault b k name = absent_fault k (table_of (layers b k)) name
 
 -- a decimal from 0 to 99 without leading zeros
 abbrev pub is_small_decimal : List ℕ → Bool
@@ -142,20 +156,23 @@ is_small_decimal _ = false
 abbrev pub activity_fault : Key → EnumMember → List Fault
 activity_fault k m = if is_small_decimal m.key then [] else fault code.EnumKey (key_text k) m.key ∷ []
 
--- in a class that isn't hidden
+-- in a class that has a number
+abbrev pub activities_faults : Key → Option ℕ → List EnumMember → List Fault
+activities_faults k uid members = if is_some uid then flat_map (activity_fault k) members else []
+
 abbrev pub activity_faults : Looks → Key → List Fault
-activity_faults b k = if is_some (uid b k) then flat_map (activity_fault k) (activities b k) else []
+activity_faults b k = activities_faults k (uid b k) (activities b k)
 
 abbrev pub size_fault : Key → List Spoken → List Fault
 size_fault k rows = if nat_lt 1024 (length rows) then fault code.AttributeLimit (key_text k) (codes "1024") ∷ [] else []
 
 abbrev pub own_faults : Looks → Key → List Fault
 own_faults b k =
-    flat_map (attribute_fault b k) (table_of (layers b k))
+    activity_faults b k
     ++ category_fault b k
+    ++ flat_map (attribute_fault b k) (table_of (layers b k))
     ++ flat_map (constraint_fault b k) (at_least_one b k)
     ++ flat_map (constraint_fault b k) (just_one b k)
-    ++ activity_faults b k
     ++ size_fault k (table_of (layers b k))
 
 -- ---- the least

@@ -12,9 +12,10 @@ use Rattle.ocsf_bundle.specs.CellOrder.{cell_cmp}
 use Rattle.ocsf_merge.specs.declared.spoken.Spoken.{Spoken}
 use Rattle.ocsf_merge.specs.Layers.{Layer}
 use Rattle.ocsf_merge.specs.Table.{table_of}
+use Rattle.ocsf_item.specs.declared.dictionary.TypeSaid.{TypeSaid}
 use Rattle.ocsf_item.specs.Names.{has_slash, ext_of, tried, item_cells, profile_cells, category_cells, include_cells}
 use Rattle.ocsf_item.specs.Chain.{chain, written_parent, Speaker, speakers, layers, include_layer, listed_layer}
-use Rattle.ocsf_item.specs.Attribute.{TypeSaid, dict_said, type_of, is_base_type, is_data_type, object_cells}
+use Rattle.ocsf_item.specs.Attribute.{dict_said, type_of, is_base_type, is_data_type, object_cells}
 use Rattle.ocsf_item.specs.Compiled.{written_category}
 use Rattle.ocsf_item.specs.InOrder.{in_order}
 
@@ -75,13 +76,15 @@ type_reads b ext t =
 abbrev pub profile_reads : Looks → Spoken → List Cell
 profile_reads b s = if s.mark_is_key then [] else mark_reads b s.mark_from s.attr.mark
 
+-- the dictionary's entries, and where there are some what the type leads to
+abbrev pub dict_reads : Looks → List ℕ → Spoken → List Cell
+dict_reads b ext s =
+    let entries = b.dict s.attr.name in
+    cell.Dict s.attr.name ∷ (if is_there entries then option_map_or (type_reads b ext) (type_of (dict_said entries) s) [] else [])
+
 -- of an attribute that is present, in an item of that extension
 abbrev pub attribute_reads : Looks → List ℕ → Spoken → List Cell
-attribute_reads b ext s =
-    let entries = b.dict s.attr.name in
-    cell.Dict s.attr.name
-    ∷ (if is_there entries then option_map_or (type_reads b ext) (type_of (dict_said entries) s) [] else [])
-    ++ profile_reads b s
+attribute_reads b ext s = dict_reads b ext s ++ profile_reads b s
 
 -- ---- of the item
 
@@ -95,8 +98,8 @@ cells_read b k =
     ext_reads (ext_of k.name)
     ++ flat_map (key_reads b) (chain b k)
     ++ flat_map (speaker_reads b) (speakers b k)
-    ++ flat_map (attribute_reads b (ext_of k.name)) (table_of (layers b k))
     ++ category_reads b k
+    ++ flat_map (attribute_reads b (ext_of k.name)) (table_of (layers b k))
 
 -- the cells that the item reads, in order, each once
 unfoldable pub reads : Looks → Key → List Cell
