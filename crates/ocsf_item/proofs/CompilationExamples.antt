@@ -46,7 +46,7 @@ nothing = core []
 
 print_of_nothing : schema_text (compilation nothing)
     ≡ codes "{\"categories\":{\"other\":{\"caption\":\"Uncategorized\",\"uid\":0}},\"classes\":{},\"dictionary\":{},\"extensions\":{},\"objects\":{},\"profiles\":{},\"types\":{},\"version\":\"\"}" ++ 10 ∷ []
-unfolding nothing schema_parts digits escape_byte
+unfolding nothing compilation schema_parts digits escape_byte
 print_of_nothing = simp printing refl
 
 nothing_is_faultless : bundle_fault nothing ≡ None
@@ -63,7 +63,7 @@ one_object = core (
 
 print_of_one_object : schema_text (compilation one_object)
     ≡ codes "{\"categories\":{\"other\":{\"caption\":\"Uncategorized\",\"uid\":0}},\"classes\":{},\"dictionary\":{\"name\":{\"caption\":\"Name\",\"type\":\"string_t\"}},\"extensions\":{},\"objects\":{\"file\":{\"attributes\":{\"name\":{\"caption\":\"Name\",\"requirement\":\"required\",\"type\":\"string_t\"}},\"caption\":\"File\"}},\"profiles\":{},\"types\":{},\"version\":\"\"}" ++ 10 ∷ []
-unfolding one_object schema_parts item keys_up digits escape_byte
+unfolding one_object compilation schema_parts item keys_up digits escape_byte
 print_of_one_object = simp printing refl
 
 one_object_is_faultless : bundle_fault one_object ≡ None
@@ -86,7 +86,7 @@ objects bundle = text (fragments Object (compilation bundle).pieces)
 
 three_objects : objects removed_name
     ≡ codes "{\"c\":{\"attributes\":{\"name\":{\"requirement\":\"optional\",\"type\":\"string_t\"}},\"extends\":\"p\"},\"g\":{\"attributes\":{\"name\":{\"requirement\":\"required\",\"type\":\"string_t\"}}},\"p\":{\"attributes\":{},\"extends\":\"g\"}}"
-unfolding removed_name objects schema_parts item keys_up digits escape_byte
+unfolding removed_name objects compilation schema_parts item keys_up digits escape_byte
 three_objects = simp printing refl
 
 -- ---- an object of the extension before that of core
@@ -113,11 +113,11 @@ each_its_own : map shown_targets (compilation two_files).pieces
     ∷ (codes "file", target.Simple (codes "string_t") ∷ [])
     ∷ (codes "win/file", [])
     ∷ []
-unfolding two_files shown_targets schema_parts item keys_up
+unfolding two_files shown_targets compilation schema_parts item keys_up
 each_its_own = refl
 
 extensions_printed : text (compilation two_files).extensions ≡ codes "{\"win\":{\"uid\":2}}"
-unfolding two_files schema_parts digits escape_byte
+unfolding two_files compilation schema_parts digits escape_byte
 extensions_printed = simp printing refl
 
 -- ---- a profile that is included, and one that is listed
@@ -150,15 +150,15 @@ listing_it = with_object (record cleared { profiles = codes "p" ∷ [] })
 
 object_with_profile : objects including
     ≡ codes "{\"o\":{\"attributes\":{\"a\":{\"group\":\"primary\",\"profile\":\"p\",\"requirement\":\"recommended\",\"type\":\"string_t\"},\"b\":{\"group\":\"primary\",\"requirement\":\"required\",\"type\":\"string_t\"}},\"profiles\":[\"p\"]}}"
-unfolding including with_object objects schema_parts item keys_up digits escape_byte
+unfolding including with_object objects compilation schema_parts item keys_up digits escape_byte
 object_with_profile = simp printing refl
 
 profiles_printed : text (compilation including).profiles ≡ codes "{\"p\":{\"attributes\":[\"a\",\"b\"]}}"
-unfolding including with_object schema_parts digits escape_byte
+unfolding including with_object compilation schema_parts digits escape_byte
 profiles_printed = simp printing refl
 
 listed_is_included : schema_text (compilation listing_it) ≡ schema_text (compilation including)
-unfolding listing_it including with_object schema_parts item keys_up
+unfolding listing_it including with_object compilation schema_parts item keys_up
 listed_is_included = refl
 
 -- ---- the greatest numbers
@@ -180,16 +180,16 @@ shown_numbers : Item → Option (List ℕ) × Option ℕ × Option ℕ
 shown_numbers i = (i.category, i.category_uid, i.class_uid)
 
 greatest_numbers : map shown_numbers (compilation greatest).pieces ≡ (Some (codes "e/z"), Some 99999, Some 99999999) ∷ []
-unfolding greatest shown_numbers schema_parts item keys_up
+unfolding greatest shown_numbers compilation schema_parts item keys_up
 greatest_numbers = refl
 
 computed_types : map (λ i. map (λ a. a.members) i.attrs) (compilation greatest).pieces
     ≡ ((member (codes "99") (codes "Other") ∷ []) ∷ (member (codes "9999999999") (codes "K: Other") ∷ []) ∷ []) ∷ []
-unfolding greatest schema_parts item keys_up digits
+unfolding greatest compilation schema_parts item keys_up digits
 computed_types = refl
 
 categories_printed : text (compilation greatest).categories ≡ codes "{\"e/z\":{\"uid\":99999},\"other\":{\"caption\":\"Uncategorized\",\"uid\":0}}"
-unfolding greatest schema_parts digits escape_byte
+unfolding greatest compilation schema_parts digits escape_byte
 categories_printed = simp printing refl
 
 -- ---- a patch
@@ -209,11 +209,11 @@ shown_names : Item → List ℕ × List (List ℕ)
 shown_names i = (i.key.name, map (λ a. a.name) i.attrs)
 
 with_patch : map shown_names (compilation (patched (codes "win" ∷ []))).pieces ≡ (codes "file", codes "name" ∷ codes "size" ∷ []) ∷ []
-unfolding patched shown_names schema_parts item keys_up
+unfolding patched shown_names compilation schema_parts item keys_up
 with_patch = refl
 
 without_patch : map shown_names (compilation (patched [])).pieces ≡ (codes "file", codes "name" ∷ []) ∷ []
-unfolding patched shown_names schema_parts item keys_up
+unfolding patched shown_names compilation schema_parts item keys_up
 without_patch = refl
 
 unknown_extension : bundle_fault (patched (codes "mac" ∷ codes "win" ∷ [])) ≡ Some (fault code.ExtensionUnknown (codes "mac") [])
@@ -263,16 +263,16 @@ two_layers = record {
 
 merged_attribute : text (compilation two_layers).dictionary
     ≡ codes "{\"a\":{\"caption\":\"A\",\"enum\":{\"1\":{\"caption\":\"Uno\"},\"2\":{\"caption\":\"Two\"}},\"type\":\"x_t\"}}"
-unfolding two_layers schema_parts digits escape_byte
+unfolding two_layers compilation schema_parts digits escape_byte
 merged_attribute = simp printing refl
 
 merged_type : text (compilation two_layers).types ≡ codes "{\"x_t\":{\"max_len\":8,\"range\":[0,9],\"type\":\"integer_t\"}}"
-unfolding two_layers schema_parts digits escape_byte
+unfolding two_layers compilation schema_parts digits escape_byte
 merged_type = simp printing refl
 
 kinds_by_name : map (λ kind. kind.name) (compilation two_layers).kinds
     ≡ codes "boolean_t" ∷ codes "float_t" ∷ codes "integer_t" ∷ codes "json_t" ∷ codes "long_t" ∷ codes "string_t" ∷ codes "x_t" ∷ []
-unfolding two_layers schema_parts way
+unfolding two_layers compilation schema_parts way
 kinds_by_name = refl
 
 -- ---- numbers
@@ -292,7 +292,7 @@ shown_class i = (i.key.name, i.category_uid, i.class_uid)
 
 classes_numbered : map shown_class (filter (λ i. same_side i.key.side Class) (compilation (sample [] [])).pieces)
     ≡ (codes "base_event", Some 0, Some 0) ∷ (codes "file_activity", Some 1, Some 1001) ∷ (codes "system", Some 1, None) ∷ []
-unfolding sample shown_class schema_parts item keys_up
+unfolding sample shown_class compilation schema_parts item keys_up
 classes_numbered = refl
 
 type_numbers : option_map (λ a. a.members) (at_name (λ a. a.name) (codes "type_uid") (item (shows (sample [] [])) (key Class (codes "file_activity"))).attrs)

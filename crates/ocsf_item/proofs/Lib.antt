@@ -31,3 +31,5 @@ pub mod Leasts
 pub mod ClassParts
 pub mod Assembling
 pub mod AttrsByName
+pub mod OneReport
+pub mod PatternExamples

@@ -8,7 +8,7 @@ use Rattle.ocsf_item.specs.PrintedSchema.{schema_parts}
 
 -- by full key the item of each active item, by name the kind of each base type and each listed one, and what is
 -- printed of the rest
-abbrev pub compilation : Stored → SchemaParts
+unfoldable pub compilation : Stored → SchemaParts
 compilation bundle = schema_parts (looks bundle.files bundle.enabled) (listing bundle)
 
 -- the schema is compiled from the bundle: from what it is, and from nothing that it was before

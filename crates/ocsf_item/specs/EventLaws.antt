@@ -22,3 +22,7 @@ FaultlessIsAllowed = (schema : SchemaParts) (event : Tree) → IsValid event
 abbrev pub ReportIsEmptyWhereAllowed : Type 0
 ReportIsEmptyWhereAllowed = (schema : SchemaParts) (event : Tree) (report : List Violation) → IsValid event
     → IsReport schema event report → ((report ≡ []) ↔ IsAllowed schema event)
+
+-- an event has one report
+abbrev pub HasOneReport : Type 0
+HasOneReport = (schema : SchemaParts) (event : Tree) (r s : List Violation) → IsReport schema event r → IsReport schema event s → r ≡ s

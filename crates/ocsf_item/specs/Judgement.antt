@@ -33,3 +33,7 @@ IsJudged revision (Ok after) judgement =
 abbrev pub IsJudgement : Stored → ℕ → List Change → Option Fault → Type 0
 IsJudgement bundle revision changes judgement =
     (made : Result Stored RawError) × IsAfter bundle changes made × IsJudged revision made judgement
+
+-- the same of an edit of no files, for which a revision is always left
+abbrev pub IsOpening : List Change → Option Fault → Type 0
+IsOpening changes judgement = IsJudgement (record { files = []; enabled = [] }) 0 changes judgement
