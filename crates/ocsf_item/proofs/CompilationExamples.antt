@@ -1,5 +1,5 @@
 -- Small bundles, compiled by the definitions alone: from files to the printed schema and the least fault.
-use Rattle.std.proofs.Common.{◌≡◌, ℕ, List, [], ◌∷◌, ◌++◌, true, Option, Some, None, codes, refl, map}
+use Rattle.std.proofs.Common.{◌≡◌, ℕ, List, [], ◌∷◌, ◌++◌, true, Option, Some, None, codes, refl, sym, subst, arith, map}
 use Rattle.std.specs.Prelude.{pos, filter, flat_map, option_map}
 use Rattle.std.specs.Fmt.{digits}
 use Rattle.json.specs.Print.{escape_byte}
@@ -30,10 +30,12 @@ use Rattle.ocsf_item.specs.Listing.{listing}
 use Rattle.ocsf_item.specs.PrintedSchema.{schema_parts}
 use Rattle.ocsf_item.specs.SchemaFaults.{schema_faults, uid_clash}
 use Rattle.ocsf_item.specs.Compilation.{compilation}
-use Rattle.ocsf_item.specs.Verdict.{bundle_fault}
+use Rattle.ocsf_item.specs.Verdict.{bundle_fault, types_of, IsRefusal, IsPatternVerdict, IsVerdictAfter, IsVerdict}
 use Rattle.ocsf_item.proofs.Examples.{plain, member}
 use Rattle.ocsf_item.proofs.SampleFiles as of
 use Rattle.ocsf_item.proofs.Sample.{with_events, class_of_system}
+use Rattle.ocsf_raw.specs.declared.dictionary.TypeEntry.{TypeEntry}
+use Rattle.ocsf_item.proofs.ReadPatterns.{bad_is_not_good, unclosed_is_bad}
 use Rattle.ocsf_item.proofs.WrittenOut.{printing}
 
 abbrev core : List StoredFile → Stored
@@ -309,3 +311,37 @@ of_extension = refl
 one_number_twice : least_fault (flat_map (uid_clash (shows twice) (listing twice).items) (listing twice).items) ≡ Some (fault code.UidClash (codes "class:x") (codes "1001"))
 unfolding sample shows twice keys_up digits
 one_number_twice = refl
+
+-- ---- verdicts
+
+no_pattern_there : IsPatternVerdict (types_of one_object) None
+unfolding one_object
+no_pattern_there = λ k d lt. absurd (omega (arith, lt))
+
+one_object_is_clean : IsVerdict one_object None
+one_object_is_clean = subst (λ o. IsVerdictAfter o (types_of one_object) None) (sym one_object_is_faultless) no_pattern_there
+
+unclosed : TypeEntry
+unclosed = record (of.type (codes "x_t") (codes "string_t")) { pattern = Some (codes "(") }
+
+with_unclosed : Stored
+with_unclosed = core (of.dictionary [] (unclosed ∷ []) ∷ [])
+
+unclosed_is_faultless : bundle_fault with_unclosed ≡ None
+unfolding with_unclosed unclosed bundle_fault moved schema_faults schema_parts way digits escape_byte
+unclosed_is_faultless = simp printing refl
+
+refused : IsRefusal (types_of with_unclosed) (fault code.PatternRefused (codes "type:x_t") [])
+unfolding with_unclosed unclosed
+refused = record {
+  before = [];
+  entry = unclosed;
+  after = [];
+  listed = refl;
+  read = λ k d lt. absurd (omega (arith, lt));
+  pattern = bad_is_not_good (codes "(") unclosed_is_bad;
+  named = refl;
+}
+
+unclosed_is_refused : IsVerdict with_unclosed (Some (fault code.PatternRefused (codes "type:x_t") []))
+unclosed_is_refused = subst (λ o. IsVerdictAfter o (types_of with_unclosed) (Some (fault code.PatternRefused (codes "type:x_t") []))) (sym unclosed_is_faultless) refused

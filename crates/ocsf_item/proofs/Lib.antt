@@ -32,4 +32,4 @@ pub mod ClassParts
 pub mod Assembling
 pub mod AttrsByName
 pub mod OneReport
-pub mod PatternExamples
+pub mod ReadPatterns
