@@ -1,8 +1,8 @@
 -- The files of a folder, and the paths below a base.
-use Rattle.std.specs.Prelude.{◌≢◌, ℕ, List, [], ◌∷◌, length, drop, nat_eq, if◌then◌else◌, ◌&&◌, Option, Some, None, filter_map, IsSorted, IsPermutation, AllPairs, Bool, false, bytes_eq, codes}
+use Rattle.std.specs.Prelude.{◌≢◌, ℕ, List, [], length, drop, nat_eq, if◌then◌else◌, ◌&&◌, Option, Some, None, filter_map, IsSorted, IsPermutation, AllPairs, Bool, false, bytes_eq, codes}
 use Rattle.std.specs.Option.{option_map_or}
 use Rattle.std.specs.Cmp.Lexicographic.{slice_cmp}
-use Rattle.std.specs.List.{starts_with}
+use Rattle.std.specs.List.{find, starts_with}
 use Rattle.std.specs.Ordering.{nat_cmp}
 use Rattle.ocsf_edge.specs.declared.records.KeptFile.{KeptFile}
 
@@ -29,7 +29,10 @@ pub record IsListing (base : List ℕ) (files : List KeptFile) (paths : List (Li
 abbrev pub is_at : List ℕ → List ℕ → KeptFile → Bool
 is_at base path file = option_map_or (λ below. bytes_eq below path) (path_below base file.path) false
 
--- the body of the file at the path below the base, or no bytes
+-- the file at the path below the base
+abbrev pub file_at : List ℕ → List ℕ → List KeptFile → Option KeptFile
+file_at base path files = find (is_at base path) files
+
+-- its body, or no bytes
 abbrev pub body_at : List ℕ → List ℕ → List KeptFile → List ℕ
-body_at base path [] = []
-body_at base path (file ∷ files) = if is_at base path file then file.body else body_at base path files
+body_at base path files = option_map_or (λ file. file.body) (file_at base path files) []

@@ -1,5 +1,7 @@
 // Where files are read.
-ghost use Rattle.std.specs.Prelude.{◌≡◌, ℕ, List, IfOk, IfSome, take};
+ghost use Rattle.std.specs.Prelude.{◌≡◌, ℕ, List, IfOk, IfSome, IsSorted, take};
+ghost use Rattle.std.specs.Cmp.Lexicographic.{slice_cmp};
+ghost use Rattle.std.specs.Ordering.{nat_cmp};
 ghost use Rattle.std.specs.declared.option.Option.{Option};
 ghost use Rattle.ocsf_edge.specs.Faults.{HasCauseOrMemory};
 ghost use Rattle.ocsf_edge.specs.Folder.{IsListing, body_at};
@@ -19,6 +21,7 @@ pub trait Folder {
     fn list(&mut self, base: &str) -> Result<Seq<Bytes>, Fail>
         ensures paths { IfOk result (λ paths. IfSome (files self.old) (λ told.
             IsListing base.now told paths)) }
+        ensures sorted { IfOk result (IsSorted (slice_cmp nat_cmp)) }
         ensures same { files self.new ≡ files self.old }
         ensures cause { HasCauseOrMemory (folder_faults self.old) (folder_faults self.new) result };
 

@@ -6,9 +6,11 @@
 #![tactic(auto)]
 
 mod bytes;
+mod dir_folder;
 mod fault;
 mod folder;
 mod keeper;
+mod memory_folder;
 mod memory_sink;
 mod memory_source;
 mod records;
@@ -21,9 +23,11 @@ mod sure_keeper;
 mod write;
 
 pub use bytes::Bytes;
+pub use dir_folder::DirFolder;
 pub use fault::{Fail, Failed};
 pub use folder::Folder;
 pub use keeper::Keeper;
+pub use memory_folder::MemoryFolder;
 pub use memory_sink::{MemorySink, SureSink};
 pub use memory_source::{MemorySource, SureSource};
 pub use records::{Kept, KeptFile, Move};

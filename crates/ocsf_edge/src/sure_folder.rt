@@ -1,7 +1,7 @@
 // A folder in memory.
-ghost use Rattle.std.specs.Prelude.{◌≡◌, ◌∷◌, ◌++◌, [], Some, IfOk, OnOk};
+ghost use Rattle.std.specs.Prelude.{◌≡◌, ◌∷◌, ◌++◌, [], Some, IfOk, OnOk, is_some};
 ghost use Rattle.std.specs.Option.{option_copied};
-ghost use Rattle.ocsf_edge.specs.Folder.{HasNoRepeatedPath, path_below, paths_below, body_at};
+ghost use Rattle.ocsf_edge.specs.Folder.{HasNoRepeatedPath, path_below, paths_below, file_at, body_at};
 
 use crate::{Bytes, Fail, Folder, KeptFile, Seq};
 use std::alloc::{AllocError, Global};
@@ -19,6 +19,13 @@ impl SureFolder {
         ensures faults { ⟦<SureFolder as Folder>⟧.folder_faults result ≡ 0 }
     {
         SureFolder { files }
+    }
+
+    /// Whether a file stands at the path below the base.
+    pub(crate) fn has_file(&self, base: &str, path: &[u8]) -> bool
+        ensures { result ≡ is_some (file_at base.now path.now self.now.files) }
+    {
+        find_file(base.as_bytes(), path, self.files.as_slice()).is_some()
     }
 }
 
@@ -60,17 +67,26 @@ fn unsorted_paths(alloc: Global, base: &[u8], files: &[KeptFile]) -> Result<Vec<
     Ok(paths)
 }
 
-fn find_body<'a>(base: &[u8], path: &[u8], files: &'a [KeptFile]) -> &'a [u8]
-    ensures { result.now ≡ body_at base.now path.now files.now }
+fn find_file<'a>(base: &[u8], path: &[u8], files: &'a [KeptFile]) -> Option<&'a KeptFile>
+    ensures { option_copied result ≡ file_at base.now path.now files.now }
 {
     for file in files {
         if let Some(rest) = below(base, file.path.as_slice())
             && rest == path
         {
-            return file.body.as_slice();
+            return Some(file);
         }
     }
-    &[]
+    None
+}
+
+fn find_body<'a>(base: &[u8], path: &[u8], files: &'a [KeptFile]) -> &'a [u8]
+    ensures { result.now ≡ body_at base.now path.now files.now }
+{
+    match find_file(base, path, files) {
+        Some(file) => file.body.as_slice(),
+        None => &[],
+    }
 }
 
 impl Folder for SureFolder {

@@ -1,11 +1,13 @@
 use crate::{
-    Bytes, Folder, Keeper, Kept, KeptFile, MemorySink, MemorySource, Move, Seq, Sink, Source,
-    StdSink, StdSource, SureFolder, SureKeeper, SureSink, SureSource, write_all, write_both,
+    Bytes, DirFolder, Folder, Keeper, Kept, KeptFile, MemoryFolder, MemorySink, MemorySource, Move,
+    Seq, Sink, Source, StdSink, StdSource, SureFolder, SureKeeper, SureSink, SureSource, write_all,
+    write_both,
 };
 use std::alloc::{AllocError, Global};
-use std::io;
 use std::io::Read;
+use std::os::unix::fs::symlink;
 use std::test::Fail;
+use std::{fs, io};
 
 fn numbers(alloc: Global, values: &[u64]) -> Result<Seq<u64>, AllocError> {
     Ok(Seq::from(values.to_vec(alloc)?))
@@ -152,5 +154,73 @@ fn folders_list_and_read(rt: HostRuntime) -> Result<(), Fail> {
         let read = folder.read_file("d", path.as_bytes(), most)?;
         assert_eq!(rt; read.as_slice(), body.as_bytes(), "{path}");
     }
+    Ok(())
+}
+
+// The second and the fourth call fail, and each that reads where no file is.
+#[test]
+fn folders_fail(rt: HostRuntime) -> Result<(), Fail> {
+    let mut keeper = stored(rt.alloc())?;
+    let failing = numbers(rt.alloc(), &[2, 4])?;
+    let mut folder = MemoryFolder::new(keeper.load()?.files, failing);
+    assert_eq!(rt; folder.list("d")?.as_slice().len(), 2);
+    assert!(rt; folder.list("d").is_err());
+    assert_eq!(rt;
+        folder.read_file("d", b"b", 9)?.as_slice(),
+        b"34".as_slice()
+    );
+    assert!(rt; folder.read_file("d", b"b", 9).is_err());
+    assert!(rt; folder.read_file("d", b"x", 9).is_err());
+    assert_eq!(rt; folder.read_file("d", b"b", 1)?.as_slice(), b"3".as_slice());
+    Ok(())
+}
+
+// Two files, one of them empty, two in folders below, and links to a file and to a folder.
+fn make_files(rt: &HostRuntime) -> io::Result<()> {
+    fs::create_dir_all(rt, "dir_folder/b/c")?;
+    fs::create_dir_all(rt, "dir_folder/empty")?;
+    fs::write(rt, "dir_folder/b.json", "0123456789")?;
+    fs::write(rt, "dir_folder/a", "")?;
+    fs::write(rt, "dir_folder/b/x", "x")?;
+    fs::write(rt, "dir_folder/b/c/y", "yy")?;
+    symlink(rt, "a", "dir_folder/link")?;
+    symlink(rt, "b", "dir_folder/linked")?;
+    Ok(())
+}
+
+#[test]
+fn folders_of_the_system(rt: HostRuntime) -> Result<(), Fail> {
+    let _ = fs::remove_dir_all(&rt, "dir_folder");
+    make_files(&rt)?;
+    let mut folder = DirFolder::new(&rt);
+    let paths = folder.list("dir_folder")?;
+    for (at, path) in [(0, "a"), (1, "b.json"), (2, "b/c/y"), (3, "b/x")] {
+        assert_eq!(rt;
+            paths.as_slice().get(at).map(|p| p.as_slice()),
+            Some(path.as_bytes())
+        );
+    }
+    assert_eq!(rt; paths.as_slice().len(), 4);
+    assert_eq!(rt;
+        folder.read_file("dir_folder", b"a", 9)?.as_slice(),
+        b"".as_slice()
+    );
+    assert_eq!(rt;
+        folder.read_file("dir_folder", b"b.json", 10)?.as_slice(),
+        b"0123456789".as_slice()
+    );
+    assert_eq!(rt;
+        folder.read_file("dir_folder", b"b.json", 4)?.as_slice(),
+        b"0123".as_slice()
+    );
+    assert_eq!(rt;
+        folder.read_file("dir_folder", b"b/c/y", 9)?.as_slice(),
+        b"yy".as_slice()
+    );
+    assert!(rt; folder.read_file("dir_folder", b"none", 9).is_err());
+    assert!(rt; folder.read_file("dir_folder", b"b", 9).is_err());
+    assert!(rt; folder.read_file("dir_folder", b"\xff", 9).is_err());
+    assert!(rt; folder.list("dir_folder/none").is_err());
+    fs::remove_dir_all(&rt, "dir_folder")?;
     Ok(())
 }
