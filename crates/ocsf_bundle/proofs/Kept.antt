@@ -10,23 +10,22 @@ use Rattle.ocsf_tree.specs.declared.key.Side.{Side}
 use Rattle.ocsf_tree.specs.declared.key.Side.TheVariants as side
 use Rattle.ocsf_tree.specs.declared.key.Key.{Key}
 use Rattle.ocsf_tree.specs.ByName.{at_name}
-use Rattle.ocsf_raw.specs.Ordered.{IsFileOrdered}
 use Rattle.ocsf_bundle.specs.declared.cells.Cell.{Cell}
 use Rattle.ocsf_bundle.specs.declared.cells.Cell.TheVariants as cell
 use Rattle.ocsf_bundle.specs.declared.stored.StoredFile.{StoredFile}
 use Rattle.ocsf_bundle.specs.declared.stored.ActiveFile.{ActiveFile}
 use Rattle.ocsf_bundle.specs.declared.keys.GroupBy.TheVariants as by
-use Rattle.ocsf_bundle.specs.Stored.{stored_path, AreFilesOrdered}
-use Rattle.ocsf_bundle.specs.Active.{active_file, active_files, in_layers, into_order, in_order, extension_uid, is_of_extension, extension_in, extension_folder, of_extension, of_core}
+use Rattle.ocsf_bundle.specs.Stored.{stored_path, IsStoredSound, IsActiveSound, AreFilesSound}
+use Rattle.ocsf_bundle.specs.Active.{active_file, active_files, if_enabled, is_enabled, extension_path, in_layers, into_order, in_order, extension_uid, is_of_extension, extension_in, extension_folder, of_extension, of_core}
 use Rattle.ocsf_bundle.specs.Keys.{gives, giving, key_given, patch_given, profile_given, include_given, extension_given, side_keys, active_keys, keys_given}
 use Rattle.ocsf_bundle.specs.Groups.{given_by, group, group_at, groups_of}
 use Rattle.ocsf_bundle.specs.Index.{index_of, side_groups, groups_by_side, is_dictionary, is_categories, group_key, group_keys}
-use Rattle.ocsf_bundle.specs.Parts.{asked, AreActiveOrdered, AreGroupsByName}
+use Rattle.ocsf_bundle.specs.Parts.{asked, AreActiveSound, AreGroupsByName}
 use Rattle.ocsf_bundle.specs.Looks.{CategoryOf, BuiltIn, is_there, look, show_patch, show_included, show_entry, show_category}
 use Rattle.ocsf_bundle.specs.FilesLook.{item_of, patch_of, profile_of, include_of, dict_of, kind_of, category_of, extension_file_of, or_built_in, looks_of, looks}
 use Rattle.ocsf_bundle.specs.Shown.{There, Item, Profile, Kind, Ext}
 use Rattle.ocsf_bundle.proofs.Grouped.{IsByName-groups_of, group_at-groups_of}
-use Rattle.ocsf_bundle.proofs.Ordered.{in_order-all, filter_map-all}
+use Rattle.ocsf_bundle.proofs.Ordered.{at_name-holds, in_order-all, filter_map-all}
 
 pub groups_by_name : (files : List ActiveFile) → AreGroupsByName (index_of files)
 groups_by_name files = record {
@@ -41,49 +40,49 @@ groups_by_name files = record {
 
 -- ---- what the files say stands in order
 
-abbrev IsActiveOrdered : ActiveFile → Type 0
-IsActiveOrdered active = IsFileOrdered active.file.raw
+taken : (file : StoredFile) (o : Option StoredFile) → IsStoredSound file → IfSome o IsStoredSound → IfSome (option_map (of_extension file) o) IsActiveSound
+taken file None h k = tt
+taken file (Some ext) h k = (h, k)
 
-abbrev IsStoredOrdered : StoredFile → Type 0
-IsStoredOrdered file = IsFileOrdered file.raw
+enabled_sound : (enabled : List (List ℕ)) (o : Option StoredFile) → IfSome o IsStoredSound → IfSome (option_and_then (if_enabled enabled) o) IsStoredSound
+enabled_sound enabled None h = tt
+enabled_sound enabled (Some file) h = elim (is_enabled enabled file) as (λ (b : Bool). IfSome (if b then Some file else None) IsStoredSound) [ true ↦ h | false ↦ tt ]
 
-taken : (file : StoredFile) (o : Option StoredFile) → IsStoredOrdered file → IfSome (option_map (of_extension file) o) IsActiveOrdered
-taken file None h = tt
-taken file (Some ext) h = h
-
-one_active : (files : List StoredFile) (enabled : List (List ℕ)) (file : StoredFile) → IsStoredOrdered file → IfSome (active_file files enabled file) IsActiveOrdered
-one_active files enabled file h =
-    elim (is_of_extension file.path) as (λ (b : Bool). IfSome (if b then option_map (of_extension file) (extension_in files enabled (extension_folder file.path)) else Some (of_core file)) IsActiveOrdered) [
-      | true ↦ taken file (extension_in files enabled (extension_folder file.path)) h
-      | false ↦ h
+one_active : (files : List StoredFile) (enabled : List (List ℕ)) → AreFilesSound files → (file : StoredFile) → IsStoredSound file → IfSome (active_file files enabled file) IsActiveSound
+one_active files enabled all file h =
+    elim (is_of_extension file.path) as (λ (b : Bool). IfSome (if b then option_map (of_extension file) (extension_in files enabled (extension_folder file.path)) else Some (of_core file)) IsActiveSound) [
+      | true ↦
+          taken file (extension_in files enabled (extension_folder file.path)) h
+          (enabled_sound enabled (at_name stored_path (extension_path (extension_folder file.path)) files) (at_name-holds IsStoredSound stored_path (extension_path (extension_folder file.path)) files all))
+      | false ↦ (h, tt)
     ]
 
-active_ordered : (files : List StoredFile) (enabled : List (List ℕ)) → AreFilesOrdered files → AreActiveOrdered (active_files files enabled)
-active_ordered files enabled all = filter_map-all IsStoredOrdered IsActiveOrdered (active_file files enabled) (one_active files enabled) files all
+active_ordered : (files : List StoredFile) (enabled : List (List ℕ)) → AreFilesSound files → AreActiveSound (active_files files enabled)
+active_ordered files enabled all = filter_map-all IsStoredSound IsActiveSound (active_file files enabled) (one_active files enabled all) files all
 
-group_ordered : (key : ActiveFile → Option (List ℕ)) (q : List ℕ) (files : List ActiveFile) → AreActiveOrdered files → AreActiveOrdered (group_at q (groups_of key files))
-group_ordered key q files all = subst AreActiveOrdered (sym (group_at-groups_of key files q)) (All-filter (gives key q) IsActiveOrdered files all)
+group_ordered : (key : ActiveFile → Option (List ℕ)) (q : List ℕ) (files : List ActiveFile) → AreActiveSound files → AreActiveSound (group_at q (groups_of key files))
+group_ordered key q files all = subst AreActiveSound (sym (group_at-groups_of key files q)) (All-filter (gives key q) IsActiveSound files all)
 
-side_ordered : (key : Side → ActiveFile → Option (List ℕ)) (s : Side) (q : List ℕ) (files : List ActiveFile) → AreActiveOrdered files → AreActiveOrdered (group_at q (groups_by_side s (side_groups key files)))
+side_ordered : (key : Side → ActiveFile → Option (List ℕ)) (s : Side) (q : List ℕ) (files : List ActiveFile) → AreActiveSound files → AreActiveSound (group_at q (groups_by_side s (side_groups key files)))
 side_ordered key side.Class q files all = group_ordered (key side.Class) q files all
 side_ordered key side.Object q files all = group_ordered (key side.Object) q files all
 
-layers_ordered : (files : List ActiveFile) → AreActiveOrdered files → AreActiveOrdered (in_layers files)
-layers_ordered files all = in_order-all IsActiveOrdered extension_uid files all
+layers_ordered : (files : List ActiveFile) → AreActiveSound files → AreActiveSound (in_layers files)
+layers_ordered files all = in_order-all IsActiveSound extension_uid files all
 
-asked_active : (files : List ActiveFile) (c : Cell) → AreActiveOrdered files → AreActiveOrdered (asked (index_of files) c)
+asked_active : (files : List ActiveFile) (c : Cell) → AreActiveSound files → AreActiveSound (asked (index_of files) c)
 asked_active files (cell.Item key) all = side_ordered (λ s. given_by (by.Item s)) key.side key.name files all
 asked_active files (cell.Exists key) all = side_ordered (λ s. given_by (by.Item s)) key.side key.name files all
 asked_active files (cell.Patches key) all = side_ordered (λ s. given_by (by.Patched s)) key.side key.name (in_layers files) (layers_ordered files all)
 asked_active files (cell.Profile key) all = group_ordered profile_given key files all
 asked_active files (cell.Include from path) all = group_ordered include_given path files all
-asked_active files (cell.Dict name) all = All-filter is_dictionary IsActiveOrdered (in_layers files) (layers_ordered files all)
-asked_active files (cell.Kind name) all = All-filter is_dictionary IsActiveOrdered (in_layers files) (layers_ordered files all)
-asked_active files (cell.Category key) all = All-filter is_categories IsActiveOrdered (in_layers files) (layers_ordered files all)
+asked_active files (cell.Dict name) all = All-filter is_dictionary IsActiveSound (in_layers files) (layers_ordered files all)
+asked_active files (cell.Kind name) all = All-filter is_dictionary IsActiveSound (in_layers files) (layers_ordered files all)
+asked_active files (cell.Category key) all = All-filter is_categories IsActiveSound (in_layers files) (layers_ordered files all)
 asked_active files (cell.Ext name) all = group_ordered extension_given name files all
 
 -- of the files that are asked
-pub asked_ordered : (files : List StoredFile) (enabled : List (List ℕ)) (c : Cell) → AreFilesOrdered files → AreActiveOrdered (asked (index_of (active_files files enabled)) c)
+pub asked_ordered : (files : List StoredFile) (enabled : List (List ℕ)) (c : Cell) → AreFilesSound files → AreActiveSound (asked (index_of (active_files files enabled)) c)
 asked_ordered files enabled c all = asked_active (active_files files enabled) c (active_ordered files enabled all)
 
 -- ---- keys

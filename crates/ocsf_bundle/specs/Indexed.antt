@@ -3,7 +3,7 @@
 use Rattle.std.specs.Prelude.{◌≡◌, ℕ, List}
 use Rattle.ocsf_tree.specs.ByName.{IsByName}
 use Rattle.ocsf_bundle.specs.declared.bundle.Bundle.TheInside.{Inside}
-use Rattle.ocsf_bundle.specs.Stored.{Stored, stored_path, AreFilesOrdered}
+use Rattle.ocsf_bundle.specs.Stored.{Stored, stored_path, AreFilesSound}
 use Rattle.ocsf_bundle.specs.Active.{active_files}
 use Rattle.ocsf_bundle.specs.Index.{index_of}
 
@@ -13,5 +13,5 @@ stored bundle = record { files = bundle.files; enabled = bundle.enabled }
 pub record IsIndexed (bundle : Inside) : Type 0 where
   pub by_path : IsByName stored_path bundle.files
   pub by_name : IsByName (λ (name : List ℕ). name) bundle.enabled
-  pub ordered : AreFilesOrdered bundle.files
+  pub ordered : AreFilesSound bundle.files
   pub indexed : bundle.index ≡ index_of (active_files bundle.files bundle.enabled)

@@ -3,10 +3,10 @@ use Rattle.std.specs.Prelude.{ℕ, List, [], ◌∷◌, take, if◌then◌else�
 use Rattle.std.specs.Option.{option_map}
 use Rattle.std.specs.List.{filter_map}
 use Rattle.std.specs.Str.{bytes_eq}
-use Rattle.ocsf_raw.specs.Ordered.{IsFileOrdered}
 use Rattle.ocsf_bundle.specs.declared.cells.Cell.{Cell}
 use Rattle.ocsf_bundle.specs.declared.cells.Cell.TheVariants as cell
 use Rattle.ocsf_bundle.specs.declared.stored.ActiveFile.{ActiveFile}
+use Rattle.ocsf_bundle.specs.Stored.{IsActiveSound}
 use Rattle.ocsf_bundle.specs.declared.index.Index.{Index}
 use Rattle.ocsf_bundle.specs.Shown.{Shown, There, Item, Profile, Kind, Other, Ext}
 use Rattle.ocsf_bundle.specs.Looks.{show_patch, show_included, show_entry, show_category}
@@ -53,9 +53,9 @@ found index (cell.Exists key) = take 1 (parts_in (cell.Exists key) (asked index 
 found index (cell.Category key) = or_other key (parts_in (cell.Category key) (asked index (cell.Category key)))
 found index c = parts_in c (asked index c)
 
--- what the files say stands in order
-abbrev pub AreActiveOrdered : List ActiveFile → Type 0
-AreActiveOrdered files = All (λ active. IsFileOrdered active.file.raw) files
+-- what the files say stands in order, with numbers in their ranges
+abbrev pub AreActiveSound : List ActiveFile → Type 0
+AreActiveSound files = All IsActiveSound files
 
 -- every group is found by its name
 pub record AreGroupsByName (index : Index) : Type 0 where

@@ -1,5 +1,5 @@
 -- What a part of a cell shows, as plain content.
-use Rattle.std.specs.Prelude.{ℕ, List, ⊤}
+use Rattle.std.specs.Prelude.{ℕ, ◌≤◌, List, IfSome, ⊤}
 use Rattle.ocsf_raw.specs.declared.attribute.RawAttr.{RawAttr}
 use Rattle.ocsf_raw.specs.declared.dictionary.DictEntry.{DictEntry}
 use Rattle.ocsf_raw.specs.declared.dictionary.TypeEntry.{TypeEntry}
@@ -48,3 +48,16 @@ IsShownOrdered (Kind entry) = ⊤
 IsShownOrdered (Category uid entry) = ⊤
 IsShownOrdered Other = ⊤
 IsShownOrdered (Ext file) = ⊤
+
+-- the numbers that a part shows are in their ranges
+abbrev pub AreNumbersInRange : Shown → Type 0
+AreNumbersInRange (Item file) = IfSome file.uid (λ uid. uid ≤ 999)
+AreNumbersInRange (Category uid entry) = (uid ≤ 999) × (entry.uid ≤ 99)
+AreNumbersInRange (Ext file) = file.uid ≤ 999
+AreNumbersInRange There = ⊤
+AreNumbersInRange (Patch ext file) = ⊤
+AreNumbersInRange (Profile file) = ⊤
+AreNumbersInRange (Include entries) = ⊤
+AreNumbersInRange (Dict ext entry) = ⊤
+AreNumbersInRange (Kind entry) = ⊤
+AreNumbersInRange Other = ⊤

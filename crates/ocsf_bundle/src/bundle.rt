@@ -1,7 +1,7 @@
 ghost use Rattle.std.specs.Prelude.{◌≡◌, ℕ, List, [], All, IfOk, slice_get, length, ◌≤◌, IfSome};
 ghost use Rattle.std.specs.Option.{option_copied, option_map};
 ghost use Rattle.ocsf_tree.specs.ByName.{IsByName};
-ghost use Rattle.ocsf_bundle.specs.Stored.{stored_path, AreFilesOrdered};
+ghost use Rattle.ocsf_bundle.specs.Stored.{stored_path, AreFilesSound};
 ghost use Rattle.ocsf_bundle.specs.Active.{active_files};
 ghost use Rattle.ocsf_bundle.specs.Keys.{active_keys};
 ghost use Rattle.ocsf_bundle.specs.Edits.{IsValidChange};
@@ -73,7 +73,7 @@ impl Bundle {
     pub fn files(&self) -> &[Shared<StoredFile>]
         ensures files { result.now ≡ self.now.files }
         ensures by_path { IsByName stored_path result.now }
-        ensures ordered { AreFilesOrdered result.now }
+        ensures sound { AreFilesSound result.now }
     {
         self.files.as_slice()
     }
@@ -94,7 +94,7 @@ impl Bundle {
     ) -> Result<Bundle, AllocError>
         requires by_path { IsByName stored_path files }
         requires by_name { IsByName (λ (name : List ℕ). name) enabled }
-        requires ordered { AreFilesOrdered files }
+        requires ordered { AreFilesSound files }
         ensures files { IfOk result (λ made. made.files ≡ files) }
         ensures enabled { IfOk result (λ made. made.enabled ≡ enabled) }
     {

@@ -2,7 +2,7 @@ ghost use Rattle.std.specs.Prelude.{◌≡◌, ℕ, List, All, IfOk, OnOk, unwra
 ghost use Rattle.std.specs.BTreeMap.{get};
 ghost use Rattle.ocsf_tree.specs.ByName.{IsByName, text_cmp};
 ghost use Rattle.ocsf_tree.specs.Valid.{IsValid};
-ghost use Rattle.ocsf_bundle.specs.Stored.{stored_path, AreFilesOrdered, AreValuesOrdered};
+ghost use Rattle.ocsf_bundle.specs.Stored.{stored_path, AreFilesSound, AreValuesSound};
 ghost use Rattle.ocsf_bundle.specs.Edits.{IsValidChange};
 ghost use Rattle.ocsf_bundle.specs.After.{said_of, file_said, name_said, enabled_after, IsChangeOutcome, IsFilesOutcome};
 
@@ -23,7 +23,7 @@ fn put_file(
     requires { IsValid tree.now }
     ensures outcome { IsChangeOutcome (get text_cmp files.old) (Change.Put path.now tree.now) result }
     ensures after { OnOk result ((q : List ℕ) → get text_cmp files.new q ≡ unwrap_or (said_of stored_path file_said q (Change.Put path.now tree.now)) (get text_cmp files.old q)) }
-    ensures ordered { OnOk result (AreValuesOrdered files.old → AreValuesOrdered files.new) }
+    ensures ordered { OnOk result (AreValuesSound files.old → AreValuesSound files.new) }
 {
     let raw = shape(alloc, path.as_str(), tree)?;
     let text = print(alloc, tree)?;
@@ -46,7 +46,7 @@ fn remove_file(
 ) -> Result<(), RawError>
     ensures outcome { IsChangeOutcome (get text_cmp files.old) (Change.Remove path.now) result }
     ensures after { OnOk result ((q : List ℕ) → get text_cmp files.new q ≡ unwrap_or (said_of stored_path file_said q (Change.Remove path.now)) (get text_cmp files.old q)) }
-    ensures ordered { OnOk result (AreValuesOrdered files.old → AreValuesOrdered files.new) }
+    ensures ordered { OnOk result (AreValuesSound files.old → AreValuesSound files.new) }
 {
     if take_item(files, path) {
         return Ok(());
@@ -66,7 +66,7 @@ fn change_file(
     requires { IsValidChange change.now }
     ensures outcome { IsChangeOutcome (get text_cmp files.old) change.now result }
     ensures after { OnOk result ((q : List ℕ) → get text_cmp files.new q ≡ unwrap_or (said_of stored_path file_said q change.now) (get text_cmp files.old q)) }
-    ensures ordered { OnOk result (AreValuesOrdered files.old → AreValuesOrdered files.new) }
+    ensures ordered { OnOk result (AreValuesSound files.old → AreValuesSound files.new) }
 {
     match change {
         Change::Put { path, tree } => put_file(alloc, files, path, tree),
@@ -82,11 +82,11 @@ pub fn files_after(
     changes: &[Change],
 ) -> Result<Row<Shared<StoredFile>>, RawError>
     requires by_path { IsByName stored_path old.now }
-    requires ordered { AreFilesOrdered old.now }
+    requires ordered { AreFilesSound old.now }
     requires trees { All IsValidChange changes.now }
     ensures outcome { IsFilesOutcome old.now changes.now result }
     ensures by_path { IfOk result (λ files. IsByName stored_path files) }
-    ensures ordered { IfOk result (λ files. AreFilesOrdered files) }
+    ensures ordered { IfOk result (λ files. AreFilesSound files) }
 {
     let mut files = map_of(alloc, old)?;
     for change in changes {

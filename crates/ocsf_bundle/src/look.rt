@@ -1,13 +1,15 @@
-ghost use Rattle.std.specs.Prelude.{◌≡◌, slice_get, IfSome};
+ghost use Rattle.std.specs.Prelude.{◌≡◌, ◌≤◌, slice_get, IfSome};
 ghost use Rattle.std.specs.Option.{option_map, option_copied};
-ghost use Rattle.ocsf_raw.specs.Ordered.{IsFileOrdered, IsByKey};
+ghost use Rattle.ocsf_raw.specs.Ordered.{IsByKey};
+ghost use Rattle.ocsf_bundle.specs.Stored.{IsActiveSound};
 ghost use Rattle.ocsf_tree.specs.ByName.{IsByName, at_name};
 ghost use Rattle.ocsf_bundle.specs.Looks.{show_patch, show_entry, show_category};
-ghost use Rattle.ocsf_bundle.specs.Shown.{shown, IsShownOrdered, Kind, Other};
+ghost use Rattle.ocsf_bundle.specs.Shown.{shown, IsShownOrdered, AreNumbersInRange, Kind, Other};
 ghost use Rattle.ocsf_bundle.specs.FilesLook.{patch_of, include_of, dict_of, kind_of, name_in, local_name, category_named, category_of, item_of, attributes_said, categories_said};
 ghost use Rattle.ocsf_bundle.specs.Looks.{show_included};
-ghost use Rattle.ocsf_bundle.specs.Parts.{part_in, parts_in, asked, or_other, found, AreActiveOrdered, AreGroupsByName};
+ghost use Rattle.ocsf_bundle.specs.Parts.{part_in, parts_in, asked, or_other, found, AreActiveSound, AreGroupsByName};
 ghost use Rattle.ocsf_bundle.specs.Index.{groups_by_side};
+ghost use Rattle.ocsf_bundle.specs.Active.{extension_uid};
 
 use crate::active::extension_said;
 use crate::cells::{Cell, Part};
@@ -50,7 +52,7 @@ fn include_part<'a>(from: &str, file: &'a ActiveFile) -> Option<Part<'a>>
 }
 
 fn dict_entry<'a>(name: &str, file: &'a ActiveFile) -> Option<&'a DictEntry>
-    requires { IsFileOrdered file.now.file.raw }
+    requires { IsActiveSound file.now }
     ensures found { option_copied result ≡ at_name (λ entry. entry.name) name.now (attributes_said file.now.file.raw) }
     ensures ordered { IfSome result (λ entry. IsByKey entry.now.members) }
 {
@@ -61,7 +63,7 @@ fn dict_entry<'a>(name: &str, file: &'a ActiveFile) -> Option<&'a DictEntry>
 }
 
 fn dict_part<'a>(name: &str, file: &'a ActiveFile) -> Option<Part<'a>>
-    requires { IsFileOrdered file.now.file.raw }
+    requires { IsActiveSound file.now }
     ensures part { option_map shown result ≡ option_map show_entry (dict_of name.now file.now) }
     ensures ordered { IfSome result (λ part. IsShownOrdered (shown part)) }
 {
@@ -70,7 +72,7 @@ fn dict_part<'a>(name: &str, file: &'a ActiveFile) -> Option<Part<'a>>
 }
 
 fn kind_part<'a>(name: &str, file: &'a ActiveFile) -> Option<Part<'a>>
-    requires { IsFileOrdered file.now.file.raw }
+    requires { IsActiveSound file.now }
     ensures { option_map shown result ≡ option_map Kind (kind_of name.now file.now) }
 {
     match &file.file.get().raw {
@@ -104,9 +106,24 @@ fn local_name<'a>(file: &ActiveFile, key: &'a str) -> Option<&'a str>
     }
 }
 
+fn uid_of(file: &ActiveFile) -> u32
+    requires { IsActiveSound file.now }
+    ensures uid { result ≡ extension_uid file.now }
+    ensures within { result ≤ 999 }
+{
+    match &file.ext {
+        Some(ext) => match extension_said(&ext.get().raw) {
+            Some(said) => said.uid,
+            None => 0,
+        },
+        None => 0,
+    }
+}
+
 fn category_entry<'a>(file: &'a ActiveFile, name: &str) -> Option<&'a CategoryEntry>
-    requires { IsFileOrdered file.now.file.raw }
-    ensures { option_copied result ≡ at_name (λ entry. entry.name) name.now (categories_said file.now.file.raw) }
+    requires { IsActiveSound file.now }
+    ensures found { option_copied result ≡ at_name (λ entry. entry.name) name.now (categories_said file.now.file.raw) }
+    ensures within { IfSome result (λ entry. entry.now.uid ≤ 99) }
 {
     match &file.file.get().raw {
         RawFile::Categories(entries) => find_by_name(entries.as_slice(), name),
@@ -115,19 +132,21 @@ fn category_entry<'a>(file: &'a ActiveFile, name: &str) -> Option<&'a CategoryEn
 }
 
 fn category_part<'a>(key: &str, file: &'a ActiveFile) -> Option<Part<'a>>
-    requires { IsFileOrdered file.now.file.raw }
-    ensures { option_map shown result ≡ option_map show_category (category_of key.now file.now) }
+    requires { IsActiveSound file.now }
+    ensures part { option_map shown result ≡ option_map show_category (category_of key.now file.now) }
+    ensures numbers { IfSome result (λ part. AreNumbersInRange (shown part)) }
 {
     let name = local_name(file, key)?;
     let entry = category_entry(file, name)?;
-    Some(Part::Category(file.extension_uid(), entry))
+    Some(Part::Category(uid_of(file), entry))
 }
 
 /// What the file shows of the cell.
 fn part_in<'a>(cell: &Cell, file: &'a ActiveFile) -> Option<Part<'a>>
-    requires { IsFileOrdered file.now.file.raw }
+    requires { IsActiveSound file.now }
     ensures part { option_map shown result ≡ part_in cell.now file.now }
     ensures ordered { IfSome result (λ part. IsShownOrdered (shown part)) }
+    ensures numbers { IfSome result (λ part. AreNumbersInRange (shown part)) }
 {
     match cell {
         Cell::Item(_) => item_of(file).map(Part::Item),
@@ -147,9 +166,10 @@ fn part_in<'a>(cell: &Cell, file: &'a ActiveFile) -> Option<Part<'a>>
 
 /// The part at position `k` of those that the files show.
 pub fn nth_part<'a>(files: &'a [ActiveFile], cell: &Cell, k: usize) -> Option<Part<'a>>
-    requires { AreActiveOrdered files.now }
+    requires { AreActiveSound files.now }
     ensures part { option_map shown result ≡ slice_get (parts_in cell.now files.now) k }
     ensures ordered { IfSome result (λ part. IsShownOrdered (shown part)) }
+    ensures numbers { IfSome result (λ part. AreNumbersInRange (shown part)) }
 {
     let mut left = k;
     for file in files {
@@ -193,9 +213,10 @@ fn asked<'a>(index: &'a Index, cell: &Cell) -> &'a [ActiveFile]
 }
 
 fn category_at<'a>(files: &'a [ActiveFile], cell: &Cell, key: &str, k: usize) -> Option<Part<'a>>
-    requires { AreActiveOrdered files.now }
+    requires { AreActiveSound files.now }
     ensures part { option_map shown result ≡ slice_get (or_other key.now (parts_in cell.now files.now)) k }
     ensures ordered { IfSome result (λ part. IsShownOrdered (shown part)) }
+    ensures numbers { IfSome result (λ part. AreNumbersInRange (shown part)) }
 {
     match nth_part(files, cell, k) {
         Some(part) => Some(part),
@@ -212,9 +233,10 @@ fn category_at<'a>(files: &'a [ActiveFile], cell: &Cell, key: &str, k: usize) ->
 /// The part at position `k` of what the cell shows.
 pub fn found<'a>(index: &'a Index, cell: &Cell, k: usize) -> Option<Part<'a>>
     requires groups { AreGroupsByName index.now }
-    requires ordered { AreActiveOrdered (asked index.now cell.now) }
+    requires ordered { AreActiveSound (asked index.now cell.now) }
     ensures part { option_map shown result ≡ slice_get (found index.now cell.now) k }
     ensures ordered { IfSome result (λ part. IsShownOrdered (shown part)) }
+    ensures numbers { IfSome result (λ part. AreNumbersInRange (shown part)) }
 {
     let files = asked(index, cell);
     match cell {

@@ -3,7 +3,7 @@ ghost use Rattle.std.specs.List.{sum_by};
 ghost use Rattle.ocsf_tree.specs.ByName.{IsByName};
 ghost use Rattle.ocsf_tree.specs.LeastFault.{least_fault};
 ghost use Rattle.ocsf_bundle.specs.Stored.{stored_path};
-ghost use Rattle.ocsf_bundle.specs.Parts.{AreActiveOrdered, AreGroupsByName};
+ghost use Rattle.ocsf_bundle.specs.Parts.{AreActiveSound, AreGroupsByName};
 ghost use Rattle.ocsf_bundle.specs.BundleFaults.{fault, fault_if, limits_passed};
 ghost use Rattle.ocsf_bundle.specs.OwnFaults.{lesser_of, file_fault_in, own_fault_in};
 
@@ -107,7 +107,7 @@ pub fn own_fault(
     requires by_path { IsByName stored_path files.now }
     requires by_name { IsByName (λ name. name) enabled.now }
     requires groups { AreGroupsByName index.now }
-    requires ordered { AreActiveOrdered index.now.dictionaries }
+    requires ordered { AreActiveSound index.now.dictionaries }
     ensures { IfOk result (λ made. made ≡ own_fault_in files.now enabled.now index.now) }
 {
     if let Some(fault) = limit_passed(alloc, files, enabled, index.keys.len())? {

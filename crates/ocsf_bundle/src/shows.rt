@@ -2,7 +2,7 @@ ghost use Rattle.std.specs.Prelude.{◌≡◌, ◌≤◌, length, slice_get, IfS
 ghost use Rattle.std.specs.Option.{option_map};
 ghost use Rattle.ocsf_bundle.specs.declared.cells.Cell.{Cell};
 ghost use Rattle.ocsf_bundle.specs.Looks.{Looks, look};
-ghost use Rattle.ocsf_bundle.specs.Shown.{shown, IsShownOrdered};
+ghost use Rattle.ocsf_bundle.specs.Shown.{shown, IsShownOrdered, AreNumbersInRange};
 
 use crate::cells::{Cell, Part};
 
@@ -15,7 +15,8 @@ pub trait Shows {
     /// parts. It takes no memory.
     fn look<'a>(&'a self, cell: &Cell, k: usize) -> Option<Part<'a>>
         ensures part { option_map shown result ≡ slice_get (look (looks self.now) cell.now) k }
-        ensures ordered { IfSome result (λ part. IsShownOrdered (shown part)) };
+        ensures ordered { IfSome result (λ part. IsShownOrdered (shown part)) }
+        ensures numbers { IfSome result (λ part. AreNumbersInRange (shown part)) };
 
     /// A number of parts that no cell passes.
     fn most(&self) -> usize

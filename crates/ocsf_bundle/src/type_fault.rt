@@ -2,10 +2,10 @@ ghost use Rattle.std.specs.Prelude.{◌≡◌, IfOk, [], map, Some, unwrap_or, i
 ghost use Rattle.std.specs.List.{filter_map};
 ghost use Rattle.std.specs.Option.{option_copied, option_or};
 ghost use Rattle.ocsf_tree.specs.LeastFault.{least_from, least_fault};
-ghost use Rattle.ocsf_raw.specs.Ordered.{IsFileOrdered};
+ghost use Rattle.ocsf_bundle.specs.Stored.{IsActiveSound};
 ghost use Rattle.ocsf_bundle.specs.FilesLook.{kind_of, types_said};
 ghost use Rattle.ocsf_bundle.specs.Looks.{is_there};
-ghost use Rattle.ocsf_bundle.specs.Parts.{AreActiveOrdered};
+ghost use Rattle.ocsf_bundle.specs.Parts.{AreActiveSound};
 ghost use Rattle.ocsf_bundle.specs.BundleFaults.{fault, last_parent, type_subject, type_fault, type_faults};
 ghost use Rattle.ocsf_bundle.specs.OwnFaults.{parent_in, kinds_in};
 
@@ -29,7 +29,7 @@ fn types_said(file: &ActiveFile) -> &[TypeEntry]
 }
 
 fn kind_of<'a>(name: &str, file: &'a ActiveFile) -> Option<&'a TypeEntry>
-    requires { IsFileOrdered file.now.file.raw }
+    requires { IsActiveSound file.now }
     ensures { option_copied result ≡ kind_of name.now file.now }
 {
     find_by_name(types_said(file), name)
@@ -47,7 +47,7 @@ fn later<'a>(earlier: Option<&'a TypeEntry>, entry: &'a TypeEntry) -> &'a TypeEn
 
 /// The entry that says which type a listed one narrows. Nothing where no dictionary lists the type.
 fn narrowing<'a>(dictionaries: &'a [ActiveFile], name: &str) -> Option<&'a TypeEntry>
-    requires { AreActiveOrdered dictionaries.now }
+    requires { AreActiveSound dictionaries.now }
     ensures listed { is_some result ≡ is_there (kinds_in dictionaries.now name.now) }
     ensures parent { parent_in (option_copied result) ≡ last_parent (kinds_in dictionaries.now name.now) }
 {
@@ -83,7 +83,7 @@ fn type_fault(
     dictionaries: &[ActiveFile],
     name: &str,
 ) -> Result<Option<Fault>, AllocError>
-    requires { AreActiveOrdered dictionaries.now }
+    requires { AreActiveSound dictionaries.now }
     ensures { IfOk result (λ made. made ≡ type_fault (kinds_in dictionaries.now) name.now) }
 {
     let mut now = name;
@@ -109,7 +109,7 @@ fn note_types(
     entries: &[TypeEntry],
     mut least: Option<Fault>,
 ) -> Result<Option<Fault>, AllocError>
-    requires { AreActiveOrdered dictionaries.now }
+    requires { AreActiveSound dictionaries.now }
     ensures { IfOk result (λ made. made ≡ least_from least (filter_map (type_fault (kinds_in dictionaries.now)) (map (λ entry. entry.name) entries.now))) }
 {
     for entry in entries {
@@ -124,7 +124,7 @@ pub fn listed_type_fault(
     dictionaries: &[ActiveFile],
     active: &[ActiveFile],
 ) -> Result<Option<Fault>, AllocError>
-    requires { AreActiveOrdered dictionaries.now }
+    requires { AreActiveSound dictionaries.now }
     ensures { IfOk result (λ made. made ≡ least_fault (type_faults (kinds_in dictionaries.now) active.now)) }
 {
     let mut least = None;

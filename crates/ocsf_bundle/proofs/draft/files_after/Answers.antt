@@ -3,9 +3,8 @@ use Rattle.std.specs.Option.{IfSome}
 use Rattle.std.specs.BTreeMap.{get}
 use Rattle.std.proofs.lemmas.List.{take_all}
 use Rattle.ocsf_tree.specs.ByName.{text_cmp, at_name, IsByName}
-use Rattle.ocsf_raw.specs.Ordered.{IsFileOrdered}
 use Rattle.ocsf_bundle.specs.declared.stored.StoredFile.{StoredFile}
-use Rattle.ocsf_bundle.specs.Stored.{stored_path, AreFilesOrdered}
+use Rattle.ocsf_bundle.specs.Stored.{stored_path, IsStoredSound, AreFilesSound}
 use Rattle.ocsf_bundle.specs.After.{said_of, file_said, file_after, AreFine}
 use Rattle.ocsf_bundle.specs.NamedMap.{values_in}
 use Rattle.ocsf_bundle.proofs.Ordered.{at_name-holds}
@@ -14,16 +13,13 @@ use Rattle.ocsf_bundle.proofs.Afters.{files_own, stands-more, stands-own, all_af
 use Rattle.ocsf_bundle.proofs.draft.files_after.Goals as goal
 use Rattle.ocsf_bundle.proofs.draft.files_after.Goals.{In_ok-files-2}
 
-abbrev IsStoredOrdered : StoredFile → Type 0
-IsStoredOrdered file = IsFileOrdered file.raw
-
 pub loop-change-init : goal.loop-change-init
 loop-change-init c = record {
   stands = λ q. c.in_ok-files.ensures q;
   fine = λ k d h. absurd (omega (arith, h));
   ordered = λ path.
-      let P : Option StoredFile → Type 0 = λ o. IfSome o IsStoredOrdered in
-      subst P (sym (c.in_ok-files.ensures path)) (at_name-holds IsStoredOrdered stored_path path c.args.old.now c.requires.ordered);
+      let P : Option StoredFile → Type 0 = λ o. IfSome o IsStoredSound in
+      subst P (sym (c.in_ok-files.ensures path)) (at_name-holds IsStoredSound stored_path path c.args.old.now c.requires.ordered);
 }
 
 pub loop-change-preserved : goal.loop-change-preserved
@@ -66,8 +62,8 @@ returns-clause-by_path c =
 
 pub returns-clause-ordered : goal.returns-clause-ordered
 returns-clause-ordered c =
-    let found : (q : List ℕ) → IfSome (at_name stored_path q (values_in c.loop-change.files)) IsStoredOrdered =
+    let found : (q : List ℕ) → IfSome (at_name stored_path q (values_in c.loop-change.files)) IsStoredSound =
     λ q.
-    let P : Option StoredFile → Type 0 = λ o. IfSome o IsStoredOrdered in
+    let P : Option StoredFile → Type 0 = λ o. IfSome o IsStoredSound in
     subst P (sym (at_name-values stored_path c.loop-change.files c.in_ok-files-2.ensures.ordered (own c) q)) (c.loop-change.invariant.ordered q) in
-    subst AreFilesOrdered (sym c.in_ok-files-2.ensures.values) (all-found stored_path IsStoredOrdered (values_in c.loop-change.files) (by_path c) found)
+    subst AreFilesSound (sym c.in_ok-files-2.ensures.values) (all-found stored_path IsStoredSound (values_in c.loop-change.files) (by_path c) found)

@@ -12,6 +12,6 @@ IsEntryOrdered entry = IsByKey entry.members
 pub returns-in-Dictionary-clause-ordered : goal.returns-in-Dictionary-clause-ordered
 returns-in-Dictionary-clause-ordered c =
     let is : c.args.file.now.file.raw ≡ Dictionary c.in-Dictionary.dictionary = search rules in
-    let said : IsFileOrdered (Dictionary c.in-Dictionary.dictionary) = subst IsFileOrdered is c.requires in
+    let said : IsFileOrdered (Dictionary c.in-Dictionary.dictionary) = subst IsFileOrdered is c.requires.0.0 in
     found-holds IsEntryOrdered c.find_by_name.result (at_name (λ e. e.name) c.args.name.now c.in-Dictionary.dictionary.attributes) (search rules)
     (at_name-holds IsEntryOrdered (λ e. e.name) c.args.name.now c.in-Dictionary.dictionary.attributes said.0.1)

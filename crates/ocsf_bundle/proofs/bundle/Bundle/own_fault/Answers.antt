@@ -3,7 +3,7 @@ use Rattle.ocsf_bundle.specs.declared.cells.Cell.TheVariants as cell
 use Rattle.ocsf_bundle.specs.Active.{active_files}
 use Rattle.ocsf_bundle.specs.BundleFaults.{own_fault}
 use Rattle.ocsf_bundle.specs.OwnFaults.{own_fault_in}
-use Rattle.ocsf_bundle.specs.Parts.{AreActiveOrdered, AreGroupsByName}
+use Rattle.ocsf_bundle.specs.Parts.{AreActiveSound, AreGroupsByName}
 use Rattle.ocsf_bundle.proofs.Kept.{groups_by_name, asked_ordered}
 use Rattle.ocsf_bundle.proofs.OwnFound.{own_fault-index_of}
 use Rattle.ocsf_bundle.proofs.bundle.Bundle.own_fault.Goals as goal
@@ -14,7 +14,7 @@ own_fault-requires-clause-groups c =
 
 pub own_fault-requires-clause-ordered : goal.own_fault-requires-clause-ordered
 own_fault-requires-clause-ordered c =
-    let P : _ → Type 0 = λ i. AreActiveOrdered i.dictionaries in
+    let P : _ → Type 0 = λ i. AreActiveSound i.dictionaries in
     subst P (sym c.self.invariant.indexed) (asked_ordered c.self.inside.files c.self.inside.enabled (cell.Kind []) c.self.invariant.ordered)
 
 pub returns : goal.returns

@@ -2,7 +2,7 @@ use Rattle.std.proofs.Common.{◌≡◌, List, ℕ, slice_get, ap, subst, sym, �
 use Rattle.std.specs.Option.{option_map}
 use Rattle.ocsf_bundle.specs.Active.{active_files, in_layers}
 use Rattle.ocsf_bundle.specs.Index.{index_of}
-use Rattle.ocsf_bundle.specs.Parts.{asked, AreActiveOrdered, AreGroupsByName}
+use Rattle.ocsf_bundle.specs.Parts.{asked, AreActiveSound, AreGroupsByName}
 use Rattle.ocsf_bundle.specs.Looks.{look}
 use Rattle.ocsf_bundle.specs.FilesLook.{looks}
 use Rattle.ocsf_bundle.proofs.Kept.{groups_by_name, asked_ordered}
@@ -16,7 +16,7 @@ found-requires-clause-groups c =
 
 pub found-requires-clause-ordered : goal.found-requires-clause-ordered
 found-requires-clause-ordered c =
-    let P : _ → Type 0 = λ i. AreActiveOrdered (asked i c.args.cell.now) in
+    let P : _ → Type 0 = λ i. AreActiveSound (asked i c.args.cell.now) in
     subst P (sym c.self.invariant.indexed) (asked_ordered c.self.inside.files c.self.inside.enabled c.args.cell.now c.self.invariant.ordered)
 
 pub returns-clause-part : goal.returns-clause-part
