@@ -20,7 +20,7 @@ use Rattle.ocsf_bundle.specs.declared.stored.StoredFile.{StoredFile}
 use Rattle.ocsf_bundle.specs.Stored.{Stored}
 use Rattle.ocsf_bundle.specs.Looks.{Looks}
 use Rattle.ocsf_bundle.specs.FilesLook.{looks}
-use Rattle.ocsf_bundle.specs.BundleFaults.{moved}
+use Rattle.ocsf_bundle.specs.BundleFaults.{reached}
 use Rattle.ocsf_item.specs.Names.{key}
 use Rattle.ocsf_kind.specs.Kinds.{way}
 use Rattle.ocsf_item.specs.Chain.{keys_up}
@@ -69,7 +69,7 @@ unfolding one_object compilation schema_parts item keys_up digits escape_byte
 print_of_one_object = simp printing refl
 
 one_object_is_faultless : bundle_fault one_object ≡ None
-unfolding one_object bundle_fault moved schema_faults schema_parts item keys_up digits escape_byte
+unfolding one_object bundle_fault reached schema_faults schema_parts item keys_up digits escape_byte
 one_object_is_faultless = simp printing refl
 
 -- ---- a removal, and an entry after it
@@ -228,11 +228,11 @@ typed : List ℕ → Stored
 typed parent = core (of.dictionary [] (of.type (codes "x_t") parent ∷ []) ∷ [])
 
 unknown_type : bundle_fault (typed (codes "y_t")) ≡ Some (fault code.TypeUnknown (codes "type:x_t") (codes "y_t"))
-unfolding typed bundle_fault moved
+unfolding typed bundle_fault reached
 unknown_type = refl
 
 narrows_itself : bundle_fault (typed (codes "x_t")) ≡ Some (fault code.TypeCycle (codes "type:x_t") [])
-unfolding typed bundle_fault moved
+unfolding typed bundle_fault reached
 narrows_itself = refl
 
 self_holding : Stored
@@ -242,7 +242,7 @@ self_holding = core (
     ∷ [])
 
 holds_itself : bundle_fault self_holding ≡ None
-unfolding self_holding bundle_fault moved schema_faults schema_parts item keys_up digits escape_byte
+unfolding self_holding bundle_fault reached schema_faults schema_parts item keys_up digits escape_byte
 holds_itself = simp printing refl
 
 -- ---- layers
@@ -328,7 +328,7 @@ with_unclosed : Stored
 with_unclosed = core (of.dictionary [] (unclosed ∷ []) ∷ [])
 
 unclosed_is_faultless : bundle_fault with_unclosed ≡ None
-unfolding with_unclosed unclosed bundle_fault moved schema_faults schema_parts way digits escape_byte
+unfolding with_unclosed unclosed bundle_fault reached schema_faults schema_parts way digits escape_byte
 unclosed_is_faultless = simp printing refl
 
 refused : IsRefusal (types_of with_unclosed) (fault code.PatternRefused (codes "type:x_t") [])
