@@ -15,7 +15,7 @@ use Rattle.ocsf_schema.specs.declared.records.Target.TheVariants as target
 use Rattle.ocsf_bundle.specs.Looks.{Looks, is_there, DictOf}
 use Rattle.ocsf_bundle.specs.declared.cells.Cell.{Cell}
 use Rattle.ocsf_merge.specs.declared.spoken.Spoken.{Spoken}
-use Rattle.ocsf_kind.specs.Kinds.{base_of}
+use Rattle.ocsf_schema.specs.Bases.{base_of}
 use Rattle.ocsf_item.specs.declared.dictionary.DictSaid.{DictSaid}
 use Rattle.ocsf_item.specs.declared.dictionary.TypeSaid.{TypeSaid}
 use Rattle.ocsf_item.specs.Names.{has_slash, in_extension, exists_cell, found, item_at, profile_named}

@@ -12,10 +12,9 @@ ghost use Rattle.ocsf_tree.specs.declared.key.Side.TheVariants.{Object};
 use crate::dictionary::{DictSaid, given_or, members_joined};
 use crate::names::{has_slash, in_extension, is_shown, profile_cells, resolve};
 use ocsf_bundle::{Cell, Shows};
-use ocsf_kind::base_of;
 use ocsf_merge::Spoken;
 use ocsf_raw::Mark;
-use ocsf_schema::{Attr, Target};
+use ocsf_schema::{Attr, Base, Target};
 use ocsf_tree::{EnumMember, Key, Requirement, Row, Side, Text, TryClone, first_of_each};
 use std::alloc::{AllocError, Global};
 
@@ -168,7 +167,7 @@ pub(crate) fn target_named<B: Shows>(
     ensures target { IfOk result (λ made. made ≡ target_named (B.looks bundle.now) ext.now (type_lent written.entry)) }
     ensures reads { OnOk result (reads.new ≡ reads.old ++ type_reads (B.looks bundle.now) ext.now (type_lent written.entry)) }
 {
-    if base_of(written.name.as_str()).is_some() {
+    if Base::named(written.name.as_str()).is_some() {
         return Ok(Some(Target::Simple(written.name.copy()?)));
     }
     if is_listed(bundle, written.name, reads)? {
