@@ -25,7 +25,8 @@ use Rattle.ocsf_merge.specs.Table.{table_of}
 use Rattle.ocsf_item.specs.Names.{ext_of, found, profile_cells, include_cells}
 use Rattle.ocsf_item.specs.Chain.{chain, written_parent, parent, Speaker, speakers, layers, include_layer, listed_layer}
 use Rattle.ocsf_item.specs.Attribute.{dict_said, type_of, target_of}
-use Rattle.ocsf_item.specs.Compiled.{Written, uid, written_category, category, at_least_one, just_one, row_of, activities}
+use Rattle.ocsf_item.specs.declared.category.Written.{Written}
+use Rattle.ocsf_item.specs.Compiled.{uid, written_category, category, at_least_one, just_one, row_of, activities}
 use Rattle.ocsf_item.specs.ItemFaults.{fault, cycle_in, cycle_fault, parent_fault, limit_fault, chain_faults, unknown_profile, mark_fault, entry_fault, layer_faults, unknown_include, include_faults, listed_faults, speaker_faults, layers_faults, type_text, attribute_fault, category_fault, constraint_fault, is_small_decimal, activity_fault, activity_faults, size_fault, own_faults, item_fault}
 use Rattle.ocsf_item.specs.SchemaFaults.{schema_faults}
 use Rattle.ocsf_item.specs.VerdictLaws.{LeastIsOfItems}
@@ -361,14 +362,14 @@ module _ (b : Looks) where
         let more = flat_map (constraint_fault b k) (at_least_one b k) in
         let one = flat_map (constraint_fault b k) (just_one b k) in
         let activity = activity_faults b k in
-        all_of r (attributes ++ category_fault b k ++ more ++ one ++ activity) (size_fault k rows)
-        (all_of r (attributes ++ category_fault b k ++ more ++ one) activity
-        (all_of r (attributes ++ category_fault b k ++ more) one
-        (all_of r (attributes ++ category_fault b k) more
-        (all_of r attributes (category_fault b k) (all_over r (attribute_fault b k) (of_attribute k) rows) (of_category k))
+        all_of r (activity ++ category_fault b k ++ attributes ++ more ++ one) (size_fault k rows)
+        (all_of r (activity ++ category_fault b k ++ attributes ++ more) one
+        (all_of r (activity ++ category_fault b k ++ attributes) more
+        (all_of r (activity ++ category_fault b k) attributes
+        (all_of r activity (category_fault b k) (of_activities k) (of_category k))
+        (all_over r (attribute_fault b k) (of_attribute k) rows))
         (all_over r (constraint_fault b k) (of_constraint k) (at_least_one b k)))
         (all_over r (constraint_fault b k) (of_constraint k) (just_one b k)))
-        (of_activities k))
         (of_size k rows)
 
 -- ---- the law

@@ -8,7 +8,8 @@ use Rattle.ocsf_raw.specs.declared.dictionary.TypeEntry.{TypeEntry}
 use Rattle.ocsf_schema.specs.declared.records.Kind.{Kind}
 use Rattle.ocsf_bundle.specs.Looks.{Looks}
 use Rattle.ocsf_kind.specs.Kinds.{kind_of}
-use Rattle.ocsf_item.specs.Attribute.{DictSaid, dict_said}
+use Rattle.ocsf_item.specs.declared.dictionary.DictSaid.{DictSaid}
+use Rattle.ocsf_item.specs.Attribute.{dict_said}
 use Rattle.ocsf_item.specs.Listing.{Listing, in_byte_order}
 
 -- ---- attributes

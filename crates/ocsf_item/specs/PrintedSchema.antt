@@ -15,7 +15,8 @@ use Rattle.ocsf_schema.specs.Print.{object_of, words, number, flag, enumeration}
 use Rattle.ocsf_schema.specs.Schema.{schema_text}
 use Rattle.ocsf_bundle.specs.Looks.{Looks, CategoryOf, BuiltIn, Listed}
 use Rattle.ocsf_item.specs.Names.{first_of}
-use Rattle.ocsf_item.specs.Compiled.{item, category_caption, category_number}
+use Rattle.ocsf_item.specs.declared.category.Category.{Category}
+use Rattle.ocsf_item.specs.Compiled.{item, category_of, category_number}
 use Rattle.ocsf_item.specs.Listing.{Listing}
 use Rattle.ocsf_item.specs.MergedDictionary.{merged_entries, merged_types, kinds}
 
@@ -38,13 +39,17 @@ abbrev pub category_description : CategoryOf → Option (List ℕ)
 category_description BuiltIn = None
 category_description (Listed ext entry) = entry.description
 
-abbrev pub category_tree : CategoryOf → Tree
-category_tree c =
+abbrev pub described_tree : Category → Option (List ℕ) → Tree
+described_tree c description =
     object_of (
-    (codes "caption", words (category_caption c))
-    ∷ (codes "description", words (category_description c))
+    (codes "caption", words c.caption)
+    ∷ (codes "description", words description)
     ∷ (codes "uid", number (Some (category_number c)))
     ∷ [])
+
+-- its key is the name that it stands under, and no part of it
+abbrev pub category_tree : CategoryOf → Tree
+category_tree c = described_tree (category_of [] c) (category_description c)
 
 abbrev pub extension_tree : ExtFile → Tree
 extension_tree ext =
