@@ -16,12 +16,7 @@ fn bundle_of(alloc: Global, text: &str) -> Result<Bundle, Fail> {
 }
 
 // The fragment of the item, or its least fault in a line.
-fn built<L: Ledger>(
-    alloc: Global,
-    blank: Blank,
-    bundle: &Bundle,
-    key: &Key,
-) -> Result<String, Fail>
+fn built<L: Ledger>(alloc: Global, blank: Blank, bundle: &Bundle, key: &Key) -> Result<String, Fail>
     requires name { blank.name ≡ L.name }
     requires parts { blank.parts ≡ L.parts }
     requires one { blank.parts ≡ 1 }
@@ -61,13 +56,16 @@ fn beside_dictionary(
 
 #[test]
 fn builds_objects(rt: HostRuntime) -> Result<(), Fail> {
-    let chain = r#"{"put":"objects/g.json","body":{"name":"g","attributes":{"name":{"requirement":"required"}}}},
+    let chain =
+        r#"{"put":"objects/g.json","body":{"name":"g","attributes":{"name":{"requirement":"required"}}}},
 {"put":"objects/p.json","body":{"name":"p","extends":"g","attributes":{"name":null}}},
 {"put":"objects/c.json","body":{"name":"c","extends":"p","attributes":{"name":{}}}}"#;
-    let included = r#"{"put":"profiles/p.json","body":{"name":"p","annotations":{"group":"primary","requirement":"recommended"},
+    let included =
+        r#"{"put":"profiles/p.json","body":{"name":"p","annotations":{"group":"primary","requirement":"recommended"},
 "attributes":{"a":{},"b":{"requirement":"required"}}}},
 {"put":"objects/o.json","body":{"name":"o","attributes":{"$include":"profiles/p.json","b":{"profile":null}}}}"#;
-    let own = r#"{"put":"objects/process.json","body":{"name":"process","attributes":{"process":{}}}}"#;
+    let own =
+        r#"{"put":"objects/process.json","body":{"name":"process","attributes":{"process":{}}}}"#;
     let patched = r#"{"put":"objects/file.json","body":{"name":"file","attributes":{"name":{}}}},
 {"put":"extensions/windows/extension.json","body":{"name":"win","uid":2}},{"enable":"win"},
 {"put":"extensions/windows/objects/f.json","body":{"extends":"file","attributes":{"size":{}}}}"#;
@@ -103,19 +101,22 @@ fn builds_objects(rt: HostRuntime) -> Result<(), Fail> {
 
 #[test]
 fn builds_a_class_with_its_numbers(rt: HostRuntime) -> Result<(), Fail> {
-    let changes = r#"{"put":"extensions/e/extension.json","body":{"name":"e","uid":999}},{"enable":"e"},
+    let changes =
+        r#"{"put":"extensions/e/extension.json","body":{"name":"e","uid":999}},{"enable":"e"},
 {"put":"extensions/e/categories.json","body":{"attributes":{"z":{"uid":99}}}},
 {"put":"extensions/e/events/k.json","body":{"name":"k","caption":"K","category":"z","uid":999,
 "attributes":{"activity_id":{"enum":{"99":{"caption":"Other"}}},"type_uid":{}}}}"#;
     let got = beside_dictionary(&rt, changes, Side::Class, "e/k")?;
-    let want = r#"{"attributes":{"activity_id":{"enum":{"99":{"caption":"Other"}},"requirement":"optional","type":"integer_t"},"type_uid":{"enum":{"9999999999":{"caption":"K: Other"}},"requirement":"optional","type":"long_t"}},"caption":"K","category":"e/z","category_uid":99999,"class_uid":99999999}"#;
+    let want =
+        r#"{"attributes":{"activity_id":{"enum":{"99":{"caption":"Other"}},"requirement":"optional","type":"integer_t"},"type_uid":{"enum":{"9999999999":{"caption":"K: Other"}},"requirement":"optional","type":"long_t"}},"caption":"K","category":"e/z","category_uid":99999,"class_uid":99999999}"#;
     assert_eq!(rt; got.as_str(), want);
     Ok(())
 }
 
 #[test]
 fn finds_the_least_fault(rt: HostRuntime) -> Result<(), Fail> {
-    let circle = r#"{"put":"objects/a.json","body":{"name":"a","extends":"b"}},{"put":"objects/b.json","body":{"name":"b","extends":"a"}}"#;
+    let circle =
+        r#"{"put":"objects/a.json","body":{"name":"a","extends":"b"}},{"put":"objects/b.json","body":{"name":"b","extends":"a"}}"#;
     let rows: [(Side, &str, &str, &str); 14] = [
         (
             Side::Object,
