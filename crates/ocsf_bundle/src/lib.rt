@@ -17,9 +17,13 @@ mod key_faults;
 mod keys;
 mod laws;
 mod look;
+#[cfg(test)]
+mod look_tests;
 mod named_map;
 mod numbers;
 mod own_fault;
+#[cfg(test)]
+mod own_fault_tests;
 mod patch_fault;
 mod shows;
 mod stored;

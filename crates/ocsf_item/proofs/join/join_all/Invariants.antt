@@ -1,0 +1,14 @@
+use Rattle.std.proofs.Common.{take, map}
+use Rattle.std.specs.Prelude.{flat_map}
+use Rattle.ocsf_item.specs.Attribute.{attr_of}
+use Rattle.ocsf_item.specs.Compiled.{computed}
+use Rattle.ocsf_item.specs.ItemFaults.{attribute_fault}
+use Rattle.ocsf_item.specs.Reads.{attribute_reads}
+use Rattle.ocsf_item.specs.Joined.{Joins}
+use Rattle.ocsf_item.proofs.join.join_all.Given as goal
+
+abbrev pub invariant-loop-row : goal.invariant-loop-row
+invariant-loop-row g l =
+    let b = g.B.Shows.looks l.bundle in
+    let done = take l.row-index l.rows in
+    Joins l.fn.joined l.joined (map (λ s. attr_of b l.ext (computed l.numbered s.attr.name) s) done) (flat_map (attribute_reads b l.ext) done) (flat_map (attribute_fault b l.key) done)

@@ -1,0 +1,76 @@
+// An item from its parts.
+ghost use Rattle.std.specs.Prelude.{◌≡◌, [], IfOk, IfSome, unwrap_or};
+ghost use Rattle.std.specs.Option.{option_map};
+ghost use Rattle.ocsf_item.specs.declared.category.Category.{Category};
+ghost use Rattle.ocsf_item.specs.Assembled.{item_from};
+ghost use Rattle.ocsf_item.specs.Ranges.{IsCategoryInRange};
+
+use crate::categories::category_number;
+use crate::category::Category;
+use crate::own::Own;
+use ocsf_schema::{Attr, Item};
+use ocsf_tree::{Key, Row, Text, TryClone, first_of_each};
+use std::alloc::{AllocError, Global};
+
+/// The key of the category.
+fn category_key(category: Option<Category>) -> Option<Text>
+    ensures { result ≡ option_map (λ (c : Category). c.key) category }
+{
+    match category {
+        Some(category) => Some(category.key),
+        None => None,
+    }
+}
+
+/// The list, which is empty where none is given.
+pub(crate) fn list_or_none(alloc: Global, list: Option<Row<Text>>) -> Row<Text>
+    ensures { result ≡ unwrap_or list [] }
+{
+    match list {
+        Some(list) => list,
+        None => Row::new(alloc),
+    }
+}
+
+/// The lists of names of an item.
+#[derive(Drop)]
+pub(crate) struct Lists {
+    /// The profiles of the layers, as they come.
+    pub profiles: Row<Text>,
+    pub at_least_one: Row<Text>,
+    pub just_one: Row<Text>,
+}
+
+/// The item of these parts.
+pub(crate) fn assembled(
+    alloc: Global,
+    key: &Key,
+    parent: Option<Text>,
+    own: Own,
+    category: Option<Category>,
+    number: Option<u64>,
+    lists: Lists,
+    attrs: Row<Attr>,
+) -> Result<Item, AllocError>
+    requires { IfSome category IsCategoryInRange }
+    ensures { IfOk result (λ made. made ≡ item_from key.now parent own category number lists.profiles lists.at_least_one lists.just_one attrs) }
+{
+    let key = key.try_clone()?;
+    let profiles = first_of_each(alloc, lists.profiles.as_slice())?;
+    let category_uid = category_number(&category);
+    let category = category_key(category);
+    Ok(Item {
+        key,
+        caption: own.caption,
+        description: own.description,
+        parent,
+        hidden: own.hidden,
+        category,
+        category_uid,
+        class_uid: number,
+        profiles,
+        at_least_one: lists.at_least_one,
+        just_one: lists.just_one,
+        attrs,
+    })
+}

@@ -1,0 +1,157 @@
+// The chain of an item.
+ghost use Rattle.std.specs.Prelude.{◌≡◌, ◌≤◌, ◌++◌, flat_map, Option, IfOk, OnOk, IfSome};
+ghost use Rattle.std.specs.Option.{option_copied};
+ghost use Rattle.ocsf_raw.specs.Ordered.{AreEntriesOrdered};
+ghost use Rattle.ocsf_tree.specs.LeastFault.{least_from, least_fault};
+ghost use Rattle.ocsf_item.specs.Chain.{own_file, parent, parent_named, chain};
+ghost use Rattle.ocsf_item.specs.Names.{tried, item_cells, ext_of};
+ghost use Rattle.ocsf_item.specs.ItemFaults.{parent_fault};
+ghost use Rattle.ocsf_item.specs.Reads.{key_reads, parent_reads};
+
+use crate::names::{ext_of, has_slash, item_cells, resolve};
+use ocsf_bundle::{Cell, Part, Shows};
+use ocsf_raw::ItemFile;
+use ocsf_tree::{Code, Fault, Key, Row, Text, TryClone, lesser_fault};
+use std::alloc::{AllocError, Global};
+
+/// The item's own file.
+pub(crate) fn own_file<'a, B: Shows>(
+    bundle: &'a B,
+    key: &Key,
+) -> Result<Option<&'a ItemFile>, AllocError>
+    ensures file { IfOk result (λ file. option_copied file ≡ own_file (B.looks bundle.now) key.now) }
+    ensures ordered { IfOk result (λ file. IfSome file (λ file. AreEntriesOrdered file.now.attributes)) }
+    ensures range { IfOk result (λ file. IfSome file (λ file. IfSome file.now.uid (λ uid. uid ≤ 999))) }
+{
+    let cell = Cell::Item(key.try_clone()?);
+    match bundle.look(&cell, 0) {
+        Some(Part::Item(file)) => Ok(Some(file)),
+        _ => Ok(None),
+    }
+}
+
+/// The item that the key names as its parent. The cells tried are read.
+fn parent_named<B: Shows>(
+    alloc: Global,
+    bundle: &B,
+    key: &Key,
+    name: &str,
+    reads: &mut Row<Cell>,
+) -> Result<Option<Key>, AllocError>
+    ensures found { IfOk result (λ made. made ≡ parent_named (B.looks bundle.now) key.now name.now) }
+    ensures reads { OnOk result (reads.new ≡ reads.old ++ tried (B.looks bundle.now) (item_cells key.now.side (ext_of key.now.name) name.now)) }
+{
+    let cells = item_cells(alloc, key.side, ext_of(key.name.as_str()), name)?;
+    match resolve(bundle, cells.as_slice(), reads)? {
+        Some(Cell::Exists(parent)) => Ok(Some(parent)),
+        _ => Ok(None),
+    }
+}
+
+/// The parent, and the least fault so far and that of a parent that isn't there.
+#[derive(Drop)]
+struct Step {
+    parent: Option<Key>,
+    least: Option<Fault>,
+}
+
+/// The key's parent. The cells tried are read.
+fn parent_of<B: Shows>(
+    alloc: Global,
+    bundle: &B,
+    key: &Key,
+    least: Option<Fault>,
+    reads: &mut Row<Cell>,
+) -> Result<Step, AllocError>
+    ensures found { IfOk result (λ step. step.parent ≡ parent (B.looks bundle.now) key.now) }
+    ensures least { IfOk result (λ step. step.least ≡ least_from least (parent_fault (B.looks bundle.now) key.now)) }
+    ensures reads { OnOk result (reads.new ≡ reads.old ++ parent_reads (B.looks bundle.now) key.now) }
+{
+    let file = own_file(bundle, key)?;
+    let Some(file) = file else {
+        return Ok(Step {
+            parent: None,
+            least,
+        });
+    };
+    let Some(name) = &file.parent else {
+        return Ok(Step {
+            parent: None,
+            least,
+        });
+    };
+    match parent_named(alloc, bundle, key, name.as_str(), reads)? {
+        Some(parent) => Ok(Step {
+            parent: Some(parent),
+            least,
+        }),
+        None => {
+            let fault = Fault {
+                code: Code::ParentUnknown,
+                subject: key.to_text()?,
+                name: name.copy()?,
+            };
+            Ok(Step {
+                parent: None,
+                least: lesser_fault(least, fault),
+            })
+        }
+    }
+}
+
+/// The key's parent. The cells of the key are read.
+fn climb<B: Shows>(
+    alloc: Global,
+    bundle: &B,
+    key: &Key,
+    least: Option<Fault>,
+    reads: &mut Row<Cell>,
+) -> Result<Step, AllocError>
+    ensures found { IfOk result (λ step. step.parent ≡ parent (B.looks bundle.now) key.now) }
+    ensures least { IfOk result (λ step. step.least ≡ least_from least (parent_fault (B.looks bundle.now) key.now)) }
+    ensures reads { OnOk result (reads.new ≡ reads.old ++ key_reads (B.looks bundle.now) key.now) }
+{
+    reads.push(Cell::Item(key.try_clone()?))?;
+    if !has_slash(key.name.as_str()) {
+        reads.push(Cell::Patches(key.try_clone()?))?;
+    }
+    parent_of(alloc, bundle, key, least, reads)
+}
+
+/// The keys of the chain, up to 33, and the least fault of a parent that isn't there.
+#[derive(Drop)]
+pub(crate) struct Chain {
+    pub keys: Row<Key>,
+    pub least: Option<Fault>,
+}
+
+/// The chain of an item. The cells of its keys are read.
+pub(crate) fn chain_of<B: Shows>(
+    alloc: Global,
+    bundle: &B,
+    key: &Key,
+    reads: &mut Row<Cell>,
+) -> Result<Chain, AllocError>
+    ensures keys { IfOk result (λ made. made.keys ≡ chain (B.looks bundle.now) key.now) }
+    ensures least { IfOk result (λ made. made.least ≡ least_fault (flat_map (parent_fault (B.looks bundle.now)) (chain (B.looks bundle.now) key.now))) }
+    ensures reads { OnOk result (reads.new ≡ reads.old ++ flat_map (key_reads (B.looks bundle.now)) (chain (B.looks bundle.now) key.now)) }
+{
+    let mut keys = Row::new(alloc);
+    let mut least = None;
+    let mut now = key.try_clone()?;
+    let mut left: u32 = 33;
+    while left > 0 {
+        left -= 1;
+        let Step {
+            parent,
+            least: after,
+        } = climb(alloc, bundle, &now, least, reads)?;
+        least = after;
+        keys.push(now)?;
+        match parent {
+            Some(parent) => now = parent,
+            None => return Ok(Chain { keys, least }),
+        }
+    }
+    Ok(Chain { keys, least })
+}

@@ -1,0 +1,110 @@
+// The parts of an item, and what is wrong with them.
+ghost use Rattle.std.specs.Prelude.{◌≡◌, ◌++◌, [], None, IfOk, IfSome, map, flat_map};
+ghost use Rattle.ocsf_tree.specs.LeastFault.{least_fault};
+ghost use Rattle.ocsf_merge.specs.Table.{table_of};
+ghost use Rattle.ocsf_item.specs.Names.{ext_of};
+ghost use Rattle.ocsf_item.specs.Chain.{speakers, layers};
+ghost use Rattle.ocsf_item.specs.Attribute.{attr_of};
+ghost use Rattle.ocsf_item.specs.Compiled.{caption, description, uid, is_hidden, category, class_number, numbered, computed, at_least_one, just_one};
+ghost use Rattle.ocsf_item.specs.ItemFaults.{own_faults, activity_faults};
+ghost use Rattle.ocsf_item.specs.Ranges.{IsCategoryInRange};
+ghost use Rattle.ocsf_item.specs.Reads.{category_reads, attribute_reads};
+ghost use Rattle.ocsf_item.specs.Speakers.{speaker_of};
+
+use crate::assemble::{Lists, list_or_none};
+use crate::category::Category;
+use crate::class::class_parts;
+use crate::faults::with_rest;
+use crate::given::given_by;
+use crate::join::{Joined, join_all};
+use crate::names::ext_of;
+use crate::own::{Own, own_of};
+use crate::speakers::Speaker;
+use ocsf_bundle::{Cell, Shows};
+use ocsf_merge::Spoken;
+use ocsf_schema::Attr;
+use ocsf_tree::{Fault, Key, Row, Text};
+use std::alloc::{AllocError, Global};
+
+/// The parts of an item.
+#[derive(Drop)]
+pub(crate) struct Parts {
+    pub own: Own,
+    pub category: Option<Category>,
+    /// The number of a class.
+    pub number: Option<u64>,
+    pub lists: Lists,
+    pub attrs: Row<Attr>,
+    /// The cells read, as they come.
+    pub reads: Row<Cell>,
+    /// The least fault of the item, but for its chain and its layers.
+    pub least: Option<Fault>,
+}
+
+/// The parts of the item whose files and layers these are.
+pub(crate) fn item_parts<B: Shows>(
+    alloc: Global,
+    bundle: &B,
+    key: &Key,
+    files: &[Speaker<'_>],
+    rows: &[Spoken],
+    profiles: Row<Text>,
+    reads: Row<Cell>,
+) -> Result<Parts, AllocError>
+    requires files { map speaker_of files.now ≡ speakers (B.looks bundle.now) key.now }
+    requires rows { rows.now ≡ table_of (layers (B.looks bundle.now) key.now) }
+    ensures caption { IfOk result (λ parts. parts.own.caption ≡ caption (B.looks bundle.now) key.now) }
+    ensures description { IfOk result (λ parts. parts.own.description ≡ description (B.looks bundle.now) key.now) }
+    ensures hidden { IfOk result (λ parts. parts.own.hidden ≡ is_hidden (B.looks bundle.now) key.now) }
+    ensures category { IfOk result (λ parts. parts.category ≡ category (B.looks bundle.now) key.now) }
+    ensures number { IfOk result (λ parts. parts.number ≡ class_number (B.looks bundle.now) key.now) }
+    ensures profiles { IfOk result (λ parts. parts.lists.profiles ≡ profiles) }
+    ensures at_least_one { IfOk result (λ parts. parts.lists.at_least_one ≡ at_least_one (B.looks bundle.now) key.now) }
+    ensures just_one { IfOk result (λ parts. parts.lists.just_one ≡ just_one (B.looks bundle.now) key.now) }
+    ensures attrs { activity_faults (B.looks bundle.now) key.now ≡ []
+        → IfOk result (λ parts. parts.attrs ≡ map (λ s. attr_of (B.looks bundle.now) (ext_of key.now.name) (computed (numbered (B.looks bundle.now) key.now) s.attr.name) s) (table_of (layers (B.looks bundle.now) key.now))) }
+    ensures reads { IfOk result (λ parts. parts.reads ≡ reads ++ category_reads (B.looks bundle.now) key.now
+        ++ flat_map (attribute_reads (B.looks bundle.now) (ext_of key.now.name)) (table_of (layers (B.looks bundle.now) key.now))) }
+    ensures least { IfOk result (λ parts. parts.least ≡ least_fault (own_faults (B.looks bundle.now) key.now)) }
+    ensures range { IfOk result (λ parts. IfSome parts.category IsCategoryInRange) }
+{
+    let own = own_of(alloc, bundle, key)?;
+    let given = given_by(files)?;
+    let mut reads = reads;
+    let class = class_parts(alloc, bundle, key, &own, given.category, rows, &mut reads)?;
+    let at_least_one = list_or_none(alloc, given.at_least_one);
+    let just_one = list_or_none(alloc, given.just_one);
+    let mut joined = Joined {
+        attrs: Row::new(alloc),
+        reads,
+        least: class.least,
+    };
+    let ext = ext_of(key.name.as_str());
+    join_all(alloc, bundle, key, ext, rows, &class.numbered, &mut joined)?;
+    let Joined {
+        attrs,
+        reads,
+        least,
+    } = joined;
+    let least = with_rest(
+        least,
+        key,
+        rows,
+        at_least_one.as_slice(),
+        just_one.as_slice(),
+    )?;
+    let lists = Lists {
+        profiles,
+        at_least_one,
+        just_one,
+    };
+    Ok(Parts {
+        own,
+        category: class.category,
+        number: class.number,
+        lists,
+        attrs,
+        reads,
+        least,
+    })
+}
