@@ -15,4 +15,5 @@ pub mod Refusals
 pub mod SaysEntries
 pub mod SaysFiles
 pub mod SaysLayers
+pub mod ValidTypes
 pub mod Sorts
