@@ -9,6 +9,7 @@ pub mod Ordered
 pub mod OwnFound
 pub mod Kept
 pub mod KeysInOrder
+pub mod Listed
 pub mod Looked
 pub mod Orders
 pub mod EditsRead

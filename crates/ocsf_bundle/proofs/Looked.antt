@@ -53,7 +53,7 @@ first_only (x ∷ xs) =
       | Some file ↦ refl
     ]
 
-no_attributes : (r : RawFile) → says_dictionary r ≡ false → attributes_said r ≡ []
+pub no_attributes : (r : RawFile) → says_dictionary r ≡ false → attributes_said r ≡ []
 no_attributes (raw.Dictionary file) e = cc
 no_attributes (raw.Version text) e = refl
 no_attributes (raw.Categories entries) e = refl
@@ -62,7 +62,7 @@ no_attributes (raw.Profile file) e = refl
 no_attributes (raw.Include entries) e = refl
 no_attributes (raw.Extension file) e = refl
 
-no_types : (r : RawFile) → says_dictionary r ≡ false → types_said r ≡ []
+pub no_types : (r : RawFile) → says_dictionary r ≡ false → types_said r ≡ []
 no_types (raw.Dictionary file) e = cc
 no_types (raw.Version text) e = refl
 no_types (raw.Categories entries) e = refl
@@ -71,7 +71,7 @@ no_types (raw.Profile file) e = refl
 no_types (raw.Include entries) e = refl
 no_types (raw.Extension file) e = refl
 
-no_categories : (r : RawFile) → says_categories r ≡ false → categories_said r ≡ []
+pub no_categories : (r : RawFile) → says_categories r ≡ false → categories_said r ≡ []
 no_categories (raw.Categories entries) e = cc
 no_categories (raw.Version text) e = refl
 no_categories (raw.Dictionary file) e = refl

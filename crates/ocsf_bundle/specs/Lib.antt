@@ -8,6 +8,7 @@ pub mod Index
 pub mod Indexed
 pub mod Keys
 pub mod Laws
+pub mod Listing
 pub mod Looks
 pub mod NamedMap
 pub mod Parts

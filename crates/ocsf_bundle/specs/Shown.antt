@@ -7,7 +7,7 @@ use Rattle.ocsf_raw.specs.declared.files.CategoryEntry.{CategoryEntry}
 use Rattle.ocsf_raw.specs.declared.files.ExtFile.{ExtFile}
 use Rattle.ocsf_raw.specs.declared.files.ItemFile.{ItemFile}
 use Rattle.ocsf_raw.specs.declared.files.ProfileFile.{ProfileFile}
-use Rattle.ocsf_raw.specs.Ordered.{IsByKey, AreEntriesOrdered}
+use Rattle.ocsf_raw.specs.Ordered.{IsByKey, AreEntriesOrdered, IsTypeValid}
 use Rattle.ocsf_bundle.specs.declared.cells.Part.{Part}
 use Rattle.ocsf_bundle.specs.declared.cells.Part.TheVariants as part
 
@@ -36,7 +36,7 @@ shown (part.Category uid entry) = Category uid entry.now
 shown part.Other = Other
 shown (part.Ext file) = Ext file.now
 
--- the entries that a part shows stand strictly by name, and their members by key
+-- the entries that a part shows stand strictly by name, and their members by key; what a type allows is valid
 abbrev pub IsShownOrdered : Shown → Type 0
 IsShownOrdered (Item file) = AreEntriesOrdered file.attributes
 IsShownOrdered (Patch ext file) = AreEntriesOrdered file.attributes
@@ -44,7 +44,7 @@ IsShownOrdered (Profile file) = AreEntriesOrdered file.attributes
 IsShownOrdered (Include entries) = AreEntriesOrdered entries
 IsShownOrdered (Dict ext entry) = IsByKey entry.members
 IsShownOrdered There = ⊤
-IsShownOrdered (Kind entry) = ⊤
+IsShownOrdered (Kind entry) = IsTypeValid entry
 IsShownOrdered (Category uid entry) = ⊤
 IsShownOrdered Other = ⊤
 IsShownOrdered (Ext file) = ⊤

@@ -8,6 +8,7 @@ ghost use Rattle.ocsf_bundle.specs.Edits.{IsValidChange};
 ghost use Rattle.ocsf_bundle.specs.After.{IsAfter};
 ghost use Rattle.ocsf_bundle.specs.BundleFaults.{own_fault};
 ghost use Rattle.ocsf_bundle.specs.FilesLook.{looks};
+ghost use Rattle.ocsf_bundle.specs.Listing.{listing};
 ghost use Rattle.ocsf_bundle.specs.Looks.{look};
 ghost use Rattle.ocsf_bundle.specs.Shown.{shown, IsShownOrdered};
 ghost use Rattle.ocsf_bundle.specs.declared.cells.Cell.{Cell};
@@ -17,12 +18,13 @@ use crate::cells::{Cell, Part};
 use crate::draft::{enabled_after, files_after};
 use crate::edit::Edit;
 use crate::index::{Index, index_of};
+use crate::listing::{attribute_names, category_keys, group_names, type_names, version_said};
 use crate::look::found;
 use crate::own_fault::own_fault;
 use crate::shows::Shows;
 use crate::stored::StoredFile;
 use ocsf_raw::RawError;
-use ocsf_tree::{Fault, Key, Row, Shared, Text};
+use ocsf_tree::{Fault, Key, Row, Shared, Text, find_by_name};
 use std::alloc::{AllocError, Global};
 use std::marker::Model;
 
@@ -144,6 +146,47 @@ impl Bundle {
             &self.index,
         )?;
         Ok(fault)
+    }
+
+    /// The attributes of the dictionaries, in byte order, each once.
+    pub fn attribute_names(&self) -> Result<Row<Text>, AllocError>
+        ensures { IfOk result (λ made. made ≡ (listing self.now).attributes) }
+    {
+        attribute_names(self.files.allocator(), self.index.dictionaries.as_slice())
+    }
+
+    /// The types of the dictionaries, in byte order, each once.
+    pub fn type_names(&self) -> Result<Row<Text>, AllocError>
+        ensures { IfOk result (λ made. made ≡ (listing self.now).types) }
+    {
+        type_names(self.files.allocator(), self.index.dictionaries.as_slice())
+    }
+
+    /// The keys of the categories, in byte order, each once. That of the built-in one is among them.
+    pub fn category_keys(&self) -> Result<Row<Text>, AllocError>
+        ensures { IfOk result (λ made. made ≡ (listing self.now).categories) }
+    {
+        category_keys(self.files.allocator(), self.index.categories.as_slice())
+    }
+
+    /// The keys of the profiles, in byte order, each once.
+    pub fn profile_keys(&self) -> Result<Row<Text>, AllocError>
+        ensures { IfOk result (λ made. made ≡ (listing self.now).profiles) }
+    {
+        group_names(self.files.allocator(), self.index.profiles.as_slice())
+    }
+
+    /// The version of the schema, empty where no file gives it. It takes no memory.
+    pub fn version(&self) -> &str
+        ensures { result.now ≡ (listing self.now).version }
+    {
+        match find_by_name(self.files.as_slice(), "version.json") {
+            Some(file) => match version_said(&file.get().raw) {
+                Some(version) => version.as_str(),
+                None => "",
+            },
+            None => "",
+        }
     }
 }
 

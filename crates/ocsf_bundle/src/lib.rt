@@ -16,6 +16,7 @@ mod index;
 mod key_faults;
 mod keys;
 mod laws;
+mod listing;
 mod look;
 #[cfg(test)]
 mod look_tests;

@@ -1,6 +1,6 @@
 ghost use Rattle.std.specs.Prelude.{◌≡◌, ◌≤◌, slice_get, IfSome};
 ghost use Rattle.std.specs.Option.{option_map, option_copied};
-ghost use Rattle.ocsf_raw.specs.Ordered.{IsByKey};
+ghost use Rattle.ocsf_raw.specs.Ordered.{IsByKey, IsTypeValid};
 ghost use Rattle.ocsf_bundle.specs.Stored.{IsActiveSound};
 ghost use Rattle.ocsf_tree.specs.ByName.{IsByName, at_name};
 ghost use Rattle.ocsf_bundle.specs.Looks.{show_patch, show_entry, show_category};
@@ -17,7 +17,7 @@ use crate::groups::{Group, group_at};
 use crate::index::{Index, Sides};
 use crate::keys::has_slash;
 use crate::stored::ActiveFile;
-use ocsf_raw::{CategoryEntry, DictEntry, ExtFile, ItemFile, RawFile, below, folder};
+use ocsf_raw::{CategoryEntry, DictEntry, ExtFile, ItemFile, RawFile, TypeEntry, below, folder};
 use ocsf_tree::{Side, find_by_name};
 
 pub fn item_of(file: &ActiveFile) -> Option<&ItemFile>
@@ -71,19 +71,24 @@ fn dict_part<'a>(name: &str, file: &'a ActiveFile) -> Option<Part<'a>>
     Some(Part::Dict(file.extension_name(), entry))
 }
 
-fn kind_part<'a>(name: &str, file: &'a ActiveFile) -> Option<Part<'a>>
+fn type_entry<'a>(name: &str, file: &'a ActiveFile) -> Option<&'a TypeEntry>
     requires { IsActiveSound file.now }
-    ensures { option_map shown result ≡ option_map Kind (kind_of name.now file.now) }
+    ensures found { option_copied result ≡ kind_of name.now file.now }
+    ensures valid { IfSome result (λ entry. IsTypeValid entry.now) }
 {
     match &file.file.get().raw {
-        RawFile::Dictionary(dictionary) => {
-            match find_by_name(dictionary.types.as_slice(), name) {
-                Some(entry) => Some(Part::Kind(entry)),
-                None => None,
-            }
-        }
+        RawFile::Dictionary(dictionary) => find_by_name(dictionary.types.as_slice(), name),
         _ => None,
     }
+}
+
+fn kind_part<'a>(name: &str, file: &'a ActiveFile) -> Option<Part<'a>>
+    requires { IsActiveSound file.now }
+    ensures part { option_map shown result ≡ option_map Kind (kind_of name.now file.now) }
+    ensures ordered { IfSome result (λ part. IsShownOrdered (shown part)) }
+{
+    let entry = type_entry(name, file)?;
+    Some(Part::Kind(entry))
 }
 
 /// The name that a key has within the extension.

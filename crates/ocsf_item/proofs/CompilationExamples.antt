@@ -26,7 +26,7 @@ use Rattle.ocsf_kind.specs.Kinds.{way}
 use Rattle.ocsf_item.specs.Chain.{keys_up}
 use Rattle.ocsf_item.specs.Compiled.{item, class_number}
 use Rattle.ocsf_item.specs.ItemFaults.{fault}
-use Rattle.ocsf_item.specs.Listing.{listing}
+use Rattle.ocsf_bundle.specs.Listing.{listing}
 use Rattle.ocsf_item.specs.PrintedSchema.{schema_parts}
 use Rattle.ocsf_item.specs.SchemaFaults.{schema_faults, uid_clash}
 use Rattle.ocsf_item.specs.Compilation.{compilation}

@@ -3,7 +3,7 @@ use Rattle.std.specs.Prelude.{◌≡◌}
 use Rattle.ocsf_schema.specs.declared.parts.SchemaParts.{SchemaParts}
 use Rattle.ocsf_bundle.specs.Stored.{Stored}
 use Rattle.ocsf_bundle.specs.FilesLook.{looks}
-use Rattle.ocsf_item.specs.Listing.{listing}
+use Rattle.ocsf_bundle.specs.Listing.{listing}
 use Rattle.ocsf_item.specs.PrintedSchema.{schema_parts}
 
 -- by full key the item of each active item, by name the kind of each base type and each listed one, and what is

@@ -16,7 +16,6 @@ pub mod Joined
 pub mod Built
 pub mod Assembled
 pub mod Laws
-pub mod Listing
 pub mod MergedDictionary
 pub mod PrintedSchema
 pub mod SchemaFaults

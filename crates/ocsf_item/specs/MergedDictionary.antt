@@ -10,7 +10,7 @@ use Rattle.ocsf_bundle.specs.Looks.{Looks}
 use Rattle.ocsf_kind.specs.Kinds.{kind_of}
 use Rattle.ocsf_item.specs.declared.dictionary.DictSaid.{DictSaid}
 use Rattle.ocsf_item.specs.Attribute.{dict_said}
-use Rattle.ocsf_item.specs.Listing.{Listing, in_byte_order}
+use Rattle.ocsf_bundle.specs.Listing.{Listing, in_byte_order}
 
 -- ---- attributes
 

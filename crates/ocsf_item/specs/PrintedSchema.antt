@@ -17,7 +17,7 @@ use Rattle.ocsf_bundle.specs.Looks.{Looks, CategoryOf, BuiltIn, Listed}
 use Rattle.ocsf_item.specs.Names.{first_of}
 use Rattle.ocsf_item.specs.declared.category.Category.{Category}
 use Rattle.ocsf_item.specs.Compiled.{item, category_of, category_number}
-use Rattle.ocsf_item.specs.Listing.{Listing}
+use Rattle.ocsf_bundle.specs.Listing.{Listing}
 use Rattle.ocsf_item.specs.MergedDictionary.{merged_entries, merged_types, kinds}
 
 -- ---- objects by name

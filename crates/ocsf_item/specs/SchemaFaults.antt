@@ -11,7 +11,7 @@ use Rattle.ocsf_tree.specs.declared.fault.Code.TheVariants as code
 use Rattle.ocsf_bundle.specs.Looks.{Looks}
 use Rattle.ocsf_item.specs.Compiled.{class_number}
 use Rattle.ocsf_item.specs.ItemFaults.{fault}
-use Rattle.ocsf_item.specs.Listing.{Listing}
+use Rattle.ocsf_bundle.specs.Listing.{Listing}
 use Rattle.ocsf_item.specs.PrintedSchema.{printed_schema}
 
 -- whether the class has that number; a hidden class has none

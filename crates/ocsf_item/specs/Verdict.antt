@@ -10,7 +10,7 @@ use Rattle.ocsf_bundle.specs.Looks.{Looks}
 use Rattle.ocsf_bundle.specs.FilesLook.{looks}
 use Rattle.ocsf_bundle.specs.BundleFaults.{own_fault}
 use Rattle.ocsf_item.specs.ItemFaults.{fault, chain_faults, layers_faults, own_faults}
-use Rattle.ocsf_item.specs.Listing.{Listing, listing}
+use Rattle.ocsf_bundle.specs.Listing.{Listing, listing}
 use Rattle.ocsf_item.specs.MergedDictionary.{merged_types}
 use Rattle.ocsf_item.specs.SchemaFaults.{schema_faults}
 use Rattle.ocsf_item.specs.Patterns.{IsRead, IsGood, IsBad}

@@ -6,7 +6,7 @@ use Rattle.ocsf_tree.specs.declared.fault.Fault.{Fault}
 use Rattle.ocsf_bundle.specs.Stored.{Stored}
 use Rattle.ocsf_bundle.specs.Looks.{Looks}
 use Rattle.ocsf_item.specs.ItemFaults.{item_fault}
-use Rattle.ocsf_item.specs.Listing.{Listing}
+use Rattle.ocsf_bundle.specs.Listing.{Listing}
 use Rattle.ocsf_item.specs.SchemaFaults.{schema_faults}
 use Rattle.ocsf_item.specs.Verdict.{least_of_groups, fault_groups, types_of, AreDecided, IsVerdict}
 

@@ -1,0 +1,24 @@
+use Rattle.std.proofs.Common.{◌≡◌, ℕ, List, ◌∷◌, map, codes, IfOk, ap, subst, ◌∙◌, rules}
+use Rattle.std.specs.Prelude.{flat_map}
+use Rattle.ocsf_bundle.specs.declared.stored.StoredFile.{StoredFile}
+use Rattle.ocsf_bundle.specs.Stored.{Stored}
+use Rattle.ocsf_bundle.specs.Active.{active_files}
+use Rattle.ocsf_bundle.specs.Groups.{group_name}
+use Rattle.ocsf_bundle.specs.Listing.{attribute_names, type_names, category_keys, in_byte_order, listing}
+use Rattle.ocsf_bundle.proofs.Listed.{categories_listed}
+use Rattle.ocsf_bundle.proofs.bundle.Bundle.category_keys.Goals as goal
+
+abbrev listed : List StoredFile → List (List ℕ) → List (List ℕ)
+listed files enabled = let stored : Stored = record { files = files; enabled = enabled } in (listing stored).categories
+
+pub returns : goal.returns
+returns c =
+    let slice : c.as_slice.result.now ≡ c.self.inside.index.categories = search rules in
+    let files : c.self.inside.files ≡ c.args.self.now.files = search rules in
+    let enabled : c.self.inside.enabled ≡ c.args.self.now.enabled = search rules in
+    let P : List (List ℕ) → Type 0 = λ l. IfOk c.category_keys.result (λ made. made ≡ l) in
+    subst P (
+      ap (λ l. in_byte_order (codes "other" ∷ flat_map category_keys l)) (slice ∙ ap (λ i. i.categories) c.self.invariant.indexed)
+      ∙ categories_listed (active_files c.self.inside.files c.self.inside.enabled)
+      ∙ ap (λ l. listed l c.self.inside.enabled) files
+      ∙ ap (λ l. listed c.args.self.now.files l) enabled) c.category_keys.ensures
