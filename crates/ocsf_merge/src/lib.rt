@@ -10,5 +10,6 @@ mod table;
 mod tests;
 
 pub use laws::{rows_are_those_present, rows_stand_by_name};
+pub use members::members_over;
 pub use spoken::Spoken;
 pub use table::Table;

@@ -1,4 +1,6 @@
 ghost use Rattle.std.specs.Prelude.{◌≡◌, ◌++◌, IfOk, OnOk};
+ghost use Rattle.ocsf_tree.specs.ByName.{IsByName};
+ghost use Rattle.ocsf_tree.specs.FirstOfEach.{first_of_each};
 ghost use Rattle.ocsf_merge.specs.Fold.{merged_members};
 
 use ocsf_tree::{EnumMember, Row, TryClone};
@@ -40,6 +42,19 @@ pub fn merged_members(
     }
     append_clones(&mut made, olds)?;
     Ok(made)
+}
+
+/// The new members, and of the keys that they don't have the old ones, in order.
+pub fn members_over(
+    alloc: Global,
+    new: &[EnumMember],
+    old: &[EnumMember],
+) -> Result<Row<EnumMember>, AllocError>
+    requires new { IsByName (λ member. member.key) new.now }
+    requires old { IsByName (λ member. member.key) old.now }
+    ensures { IfOk result (λ made. made ≡ first_of_each (λ member. member.key) (new.now ++ old.now)) }
+{
+    merged_members(alloc, new, old)
 }
 
 /// Appends equal items.
