@@ -152,9 +152,9 @@ pub categories_listed : (files : List ActiveFile) → in_byte_order (codes "othe
 categories_listed files =
     same_in_order (codes "other" ∷ flat_map category_keys (index_of files).categories) (codes "other" ∷ flat_map category_keys files)
     (λ q.
-      at_name-append (λ n. n) q (codes "other" ∷ []) (flat_map category_keys (index_of files).categories)
-      ∙ ap (option_or (among q (codes "other" ∷ []))) (kept_layers category_keys is_categories no_category_keys q files)
-      ∙ sym (at_name-append (λ n. n) q (codes "other" ∷ []) (flat_map category_keys files)))
+    at_name-append (λ n. n) q (codes "other" ∷ []) (flat_map category_keys (index_of files).categories)
+    ∙ ap (option_or (among q (codes "other" ∷ []))) (kept_layers category_keys is_categories no_category_keys q files)
+    ∙ sym (at_name-append (λ n. n) q (codes "other" ∷ []) (flat_map category_keys files)))
 
 names_of_groups : (files : List ActiveFile) (names : List (List ℕ)) → map group_name (map (group profile_given files) names) ≡ names
 names_of_groups files [] = refl

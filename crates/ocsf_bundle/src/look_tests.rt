@@ -452,3 +452,34 @@ fn applies_edits(rt: HostRuntime) -> Result<(), Fail> {
     }
     Ok(())
 }
+
+// ---- what there is
+
+fn joined(rt: &HostRuntime, names: &[Text]) -> Result<String, Fail> {
+    let mut line = String::new(rt.alloc());
+    for name in names {
+        line.push_str(name.as_str())?;
+        line.push(';')?;
+    }
+    Ok(line)
+}
+
+#[test]
+fn lists(rt: HostRuntime) -> Result<(), Fail> {
+    let bundle = bundle_of(&rt, FILES)?;
+    let attributes = joined(&rt, bundle.attribute_names()?.as_slice())?;
+    assert_eq!(rt; attributes.as_str(), "a;b;");
+    let types = joined(&rt, bundle.type_names()?.as_slice())?;
+    assert_eq!(rt; types.as_str(), "t;");
+    let categories = joined(&rt, bundle.category_keys()?.as_slice())?;
+    assert_eq!(rt; categories.as_str(), "c;other;win/c;win/other;");
+    let profiles = joined(&rt, bundle.profile_keys()?.as_slice())?;
+    assert_eq!(rt; profiles.as_str(), "p;win/p;");
+    assert_eq!(rt; bundle.version(), "");
+    let versioned = bundle_of(
+        &rt,
+        r#"[{"put":"version.json","body":{"version":"1.3.0"}}]"#,
+    )?;
+    assert_eq!(rt; versioned.version(), "1.3.0");
+    Ok(())
+}

@@ -12,5 +12,5 @@ returns c =
     let key : EnumMember → List _ = λ m. m.key in
     let P : List EnumMember → Type 0 = λ l. IfOk c.merged_members.result (λ made. made ≡ l) in
     subst P (
-      ap (merged_members new) (sym (first_of_each-by_name key old c.requires.old))
-      ∙ merged-first_of_each key new old c.requires.new) c.merged_members.ensures
+    ap (merged_members new) (sym (first_of_each-by_name key old c.requires.old))
+    ∙ merged-first_of_each key new old c.requires.new) c.merged_members.ensures

@@ -18,7 +18,7 @@ returns c =
     let enabled : c.self.inside.enabled ≡ c.args.self.now.enabled = search rules in
     let P : List (List ℕ) → Type 0 = λ l. IfOk c.attribute_names.result (λ made. made ≡ l) in
     subst P (
-      ap (λ l. in_byte_order (flat_map attribute_names l)) (slice ∙ ap (λ i. i.dictionaries) c.self.invariant.indexed)
-      ∙ attributes_listed (active_files c.self.inside.files c.self.inside.enabled)
-      ∙ ap (λ l. listed l c.self.inside.enabled) files
-      ∙ ap (λ l. listed c.args.self.now.files l) enabled) c.attribute_names.ensures
+    ap (λ l. in_byte_order (flat_map attribute_names l)) (slice ∙ ap (λ i. i.dictionaries) c.self.invariant.indexed)
+    ∙ attributes_listed (active_files c.self.inside.files c.self.inside.enabled)
+    ∙ ap (λ l. listed l c.self.inside.enabled) files
+    ∙ ap (λ l. listed c.args.self.now.files l) enabled) c.attribute_names.ensures

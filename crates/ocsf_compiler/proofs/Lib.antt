@@ -1,0 +1,4 @@
+pub mod ByNames
+pub mod Layered
+pub mod Listed
+pub mod Printed
