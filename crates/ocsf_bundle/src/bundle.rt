@@ -133,6 +133,13 @@ impl Bundle {
         key_at(self.index.keys.as_slice(), k)
     }
 
+    /// The active full keys in order, each once. It takes no memory.
+    pub fn keys(&self) -> &[Key]
+        ensures { result.now ≡ (listing self.now).items }
+    {
+        self.index.keys.as_slice()
+    }
+
     /// The least of the faults that the files have as a whole: by their number, their keys and numbers,
     /// and their patches, and, where there are none of these, by the types of their dictionaries.
     pub fn own_fault(&self) -> Result<Option<Fault>, AllocError>

@@ -8,8 +8,6 @@ mod cells;
 mod draft;
 mod edit;
 mod edit_laws;
-#[cfg(test)]
-mod edit_tests;
 mod faults;
 mod groups;
 mod index;
@@ -18,13 +16,9 @@ mod keys;
 mod laws;
 mod listing;
 mod look;
-#[cfg(test)]
-mod look_tests;
 mod named_map;
 mod numbers;
 mod own_fault;
-#[cfg(test)]
-mod own_fault_tests;
 mod patch_fault;
 mod shows;
 mod stored;

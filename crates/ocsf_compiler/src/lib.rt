@@ -2,12 +2,16 @@
 #![tactic(auto)]
 
 mod attributes;
+mod compile;
+mod compile_error;
+mod items;
 mod kinds;
 mod parts;
+mod schema_fault;
 mod sections;
 mod tables;
-#[cfg(test)]
-mod tests;
 mod types;
 
+pub use compile::compile;
+pub use compile_error::CompileError;
 pub use parts::{parts_of, types_of};

@@ -38,6 +38,3 @@ pub use std_forms::{StdSink, StdSource};
 pub use sure_folder::SureFolder;
 pub use sure_keeper::SureKeeper;
 pub use write::{write_all, write_both};
-
-#[cfg(test)]
-mod tests;

@@ -31,8 +31,6 @@ mod order;
 mod own;
 mod parts;
 mod speakers;
-#[cfg(test)]
-mod tests;
 mod walk;
 
 pub use build::{Built, build_item};

@@ -5,8 +5,6 @@ mod accepted;
 mod kinds;
 mod laws;
 mod numbers;
-#[cfg(test)]
-mod tests;
 
 pub use accepted::{Which, breaks, fits_base};
 pub use kinds::{KindError, kind_of};

@@ -13,6 +13,3 @@ mod stop;
 pub use lines_end::LinesEnd;
 pub use machine::{LineMachine, Reply};
 pub use reading::run_lines;
-
-#[cfg(test)]
-mod tests;

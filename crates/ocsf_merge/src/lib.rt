@@ -6,8 +6,6 @@ mod members;
 mod row;
 mod spoken;
 mod table;
-#[cfg(test)]
-mod tests;
 
 pub use laws::{rows_are_those_present, rows_stand_by_name};
 pub use members::members_over;

@@ -18,8 +18,6 @@ mod named;
 mod names;
 mod path_form;
 mod readers;
-#[cfg(test)]
-mod tests;
 mod wanted;
 mod what;
 

@@ -10,8 +10,6 @@ mod printing;
 mod records;
 mod schema;
 mod steps;
-#[cfg(test)]
-mod tests;
 
 pub use fields::{enumeration_field, flag_field, put_field, texts_field, word_field, words_field};
 pub use parts::SchemaParts;

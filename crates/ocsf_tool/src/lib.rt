@@ -16,6 +16,3 @@ mod status;
 pub use command::run;
 pub use laws::last_put_decides;
 pub use status::Status;
-
-#[cfg(test)]
-mod tests;

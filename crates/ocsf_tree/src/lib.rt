@@ -14,8 +14,6 @@ mod printer;
 mod reader;
 mod row;
 mod shared;
-#[cfg(test)]
-mod tests;
 mod text;
 mod text_order;
 mod tree;

@@ -1,4 +1,4 @@
-use crate::{
+use ocsf_edge::{
     Bytes, DirFolder, Folder, Keeper, Kept, KeptFile, MemoryFolder, MemorySink, MemorySource, Move,
     Seq, Sink, Source, StdSink, StdSource, SureFolder, SureKeeper, SureSink, SureSource, write_all,
     write_both,

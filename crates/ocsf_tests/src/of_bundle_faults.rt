@@ -1,4 +1,4 @@
-use crate::{Bundle, edit_of};
+use ocsf_bundle::{Bundle, edit_of};
 use ocsf_tree::read;
 use std::test::Fail;
 

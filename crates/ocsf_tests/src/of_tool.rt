@@ -1,4 +1,4 @@
-use crate::{Status, run};
+use ocsf_tool::{Status, run};
 use ocsf_edge::{
     Bytes, Kept, MemorySink, MemorySource, Seq, Sink, Source, SureFolder, SureKeeper, SureSink,
     SureSource,

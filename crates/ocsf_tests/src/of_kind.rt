@@ -1,7 +1,7 @@
 ghost use Rattle.std.specs.Prelude.{IfOk};
 ghost use Rattle.ocsf_tree.specs.ByName.{IsByName};
 
-use crate::{KindError, Which, breaks, class_uid, fits_base, kind_of, type_uid};
+use ocsf_kind::{KindError, Which, breaks, class_uid, fits_base, kind_of, type_uid};
 use ocsf_raw::{RawFile, TypeEntry, shape};
 use ocsf_schema::{Base, Kind};
 use ocsf_tree::{Row, read};

@@ -1,4 +1,4 @@
-use crate::{
+use ocsf_tree::{
     Key, Member, Place, Row, Shared, Side, Step, Text, Tree, TreeError, TryClone, is_same,
     place_order, pointer, print, quote, read,
 };

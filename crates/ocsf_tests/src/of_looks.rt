@@ -1,4 +1,4 @@
-use crate::{Bundle, Cell, Part, Shows, edit_of};
+use ocsf_bundle::{Bundle, Cell, Part, Shows, edit_of};
 use ocsf_raw::{DictFile, ExtFile, ItemFile, RawAttr, RawError, RawFile, below, folder};
 use ocsf_tree::{Key, Side, Text, read};
 use std::alloc::{AllocError, Global};

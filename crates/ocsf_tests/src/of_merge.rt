@@ -1,7 +1,7 @@
 ghost use Rattle.std.specs.Prelude.{IfOk};
 ghost use Rattle.ocsf_raw.specs.Ordered.{IsFileOrdered};
 
-use crate::{Spoken, Table};
+use ocsf_merge::{Spoken, Table};
 use ocsf_raw::{Mark, ProfileFile, RawAttr, RawFile, shape};
 use ocsf_tree::{EnumMember, Requirement, read};
 use std::alloc::AllocError;

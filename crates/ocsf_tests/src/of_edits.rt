@@ -1,6 +1,6 @@
 ghost use Rattle.ocsf_bundle.specs.Edits.{IsValidChange};
 
-use crate::{Change, edit_of};
+use ocsf_bundle::{Change, edit_of};
 use ocsf_raw::RawError;
 use ocsf_tree::{Text, print, read};
 use std::test::Fail;

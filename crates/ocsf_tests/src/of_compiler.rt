@@ -1,4 +1,4 @@
-use crate::parts_of;
+use ocsf_compiler::parts_of;
 use ocsf_bundle::{Bundle, edit_of};
 use ocsf_edge::{MemorySink, Seq};
 use ocsf_schema::{Base, Schema};

@@ -1,7 +1,7 @@
 // What items come to over small files, and their least faults.
 ghost use Rattle.std.specs.Prelude.{◌≡◌};
 
-use crate::{BuildError, build_item};
+use ocsf_item::{BuildError, build_item};
 use ocsf_bundle::{Bundle, edit_of};
 use ocsf_schema::Steps;
 use ocsf_tree::{Key, Side, Text, read};

@@ -1,4 +1,4 @@
-use crate::{Mark, RawError, RawFile, first_form, has_form, is_path, is_reference, shape};
+use ocsf_raw::{Mark, RawError, RawFile, first_form, has_form, is_path, is_reference, shape};
 use ocsf_tree::{Requirement, Text, read};
 use std::test::Fail;
 
