@@ -1,15 +1,15 @@
 -- Numbers that a class of a lesser key has: asked of the first class of a number, and of all classes.
 use Rattle.std.proofs.Common.{◌≡◌, ℕ, ◌≤◌, ◌<◌, List, [], ◌∷◌, ◌++◌, map, Bool, true, false, cond, ◌&&◌, ◌||◌, not, Option, Some, None, refl, sym, ◌∙◌, ap, arith}
-use Rattle.std.specs.Prelude.{◌==◌, if◌then◌else◌, is_none, flat_map, decimal, All, nat_lt, length, codes, ⊤}
+use Rattle.std.specs.Prelude.{◌==◌, if◌then◌else◌, is_none, flat_map, decimal, All, nat_lt, length, codes}
 use Rattle.std.specs.Option.{option_map, option_map_or, option_and_then, option_or, IfSome}
 use Rattle.std.specs.List.{find, filter_map, cons_option, list_any}
 use Rattle.std.specs.declared.cmp.Ordering.{Ordering}
 use Rattle.std.specs.declared.cmp.Ordering.TheVariants.{Less, Equal, Greater}
 use Rattle.std.specs.Ordering.{is_lt}
-use Rattle.std.specs.Cmp.{IsTotalOrder}
 use Rattle.std.specs.Cmp.Lexicographic.{nat_list_cmp_total}
 use Rattle.std.specs.FinMap.Entries.{below_all}
 use Rattle.std.proofs.lemmas.Bool.{and_parts}
+use Rattle.std.proofs.lemmas.List.Elements.{All-nil, All-cons}
 use Rattle.ocsf_tree.specs.declared.fault.Fault.{Fault}
 use Rattle.ocsf_tree.specs.declared.fault.Code.TheVariants as code
 use Rattle.ocsf_tree.specs.declared.key.Side.{Side}
@@ -164,6 +164,9 @@ module _ (b : Looks) (ks : List Key) (s : IsByName key_text ks) where
 abbrev IsUpTo60 : Fault → Type 0
 IsUpTo60 f = rank f.code ≤ 60
 
+abbrev IsPast60 : Fault → Type 0
+IsPast60 f = 60 < rank f.code
+
 low_if : (c : Bool) (f : Fault) → IsUpTo60 f → IfSome (fault_if c f) IsUpTo60
 low_if true f h = h
 low_if false f h = tt
@@ -174,16 +177,16 @@ low_of items i (Some n) = low_if (is_taken_in items i n) (fault code.UidClash (k
 
 low_more : (o : Option Fault) (fs : List Fault) → IfSome o IsUpTo60 → All IsUpTo60 fs → All IsUpTo60 (cons_option o fs)
 low_more None fs h r = r
-low_more (Some f) fs h r = (h, r)
+low_more (Some f) fs h r = All-cons IsUpTo60 f fs h r
 
 low_all : (items is : List Item) → All IsUpTo60 (filter_map (clash_in items) is)
-low_all items [] = tt
+low_all items [] = All-nil IsUpTo60
 low_all items (i ∷ is) = low_more (clash_in items i) (filter_map (clash_in items) is) (low_of items i i.class_uid) (low_all items is)
 
 least_if : (cs : List Fault) → All IsUpTo60 cs → (c : Bool) → least_fault (cs ++ (if c then fault code.TooLarge (codes "bundle") (codes "print") ∷ [] else []))
     ≡ option_or (least_fault cs) (fault_if c (fault code.TooLarge (codes "bundle") (codes "print")))
-least_if cs h true = least_fault-by_rank 60 cs (fault code.TooLarge (codes "bundle") (codes "print") ∷ []) h (omega (arith), tt)
-least_if cs h false = least_fault-by_rank 60 cs [] h tt
+least_if cs h true = least_fault-by_rank 60 cs (fault code.TooLarge (codes "bundle") (codes "print") ∷ []) h (All-cons IsPast60 (fault code.TooLarge (codes "bundle") (codes "print")) [] (omega (arith)) (All-nil IsPast60))
+least_if cs h false = least_fault-by_rank 60 cs [] h (All-nil IsPast60)
 
 -- the least fault of a schema
 pub schema_least : (b : Looks) (ks : List Key) (print : List ℕ) → IsByName key_text ks

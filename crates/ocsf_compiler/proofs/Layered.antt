@@ -1,5 +1,5 @@
 -- The layers of the dictionaries, taken one after another.
-use Rattle.std.proofs.Common.{◌≡◌, ℕ, zero, suc, ◌+◌, ◌≤◌, List, [], ◌∷◌, ◌++◌, length, take, map, reverse, Option, Some, None, refl, sym, ap, ◌∙◌, arith}
+use Rattle.std.proofs.Common.{◌≡◌, ℕ, zero, suc, ◌+◌, List, [], ◌∷◌, ◌++◌, take, map, reverse, Option, Some, None, refl, sym, ap, ◌∙◌, arith}
 use Rattle.std.specs.Prelude.{flat_map, slice_get}
 use Rattle.std.specs.Option.{IfSome, option_or, option_map, option_and_then}
 use Rattle.std.proofs.lemmas.List.{reverse-append, take_all}
@@ -13,7 +13,7 @@ use Rattle.ocsf_raw.specs.declared.dictionary.TypeEntry.{TypeEntry}
 use Rattle.ocsf_raw.specs.Ordered.{IsByKey, IsSpanValid, IsTypeValid}
 use Rattle.ocsf_bundle.specs.Shown.{Shown, Kind}
 use Rattle.ocsf_bundle.specs.Looks.{DictOf, show_entry}
-use Rattle.ocsf_item.specs.Attribute.{TypeSaid, first_said, type_said_in, dict_said}
+use Rattle.ocsf_item.specs.Attribute.{first_said, type_said_in, dict_said}
 use Rattle.ocsf_item.specs.MergedDictionary.{entry_said, last_giving, merged_layers}
 use Rattle.ocsf_compiler.specs.Layers.{as_entry, as_type, entry_over, type_over}
 
@@ -54,9 +54,14 @@ said_by name ds = record {
   sibling = first_said (λ d. d.entry.sibling) ds;
 }
 
-type_over_old : (from : List ℕ) (t : Option (List ℕ)) (old : Option TypeSaid) → option_map (λ s. s.name) (option_or (type_said_in from t) old) ≡ option_or t (option_map (λ s. s.name) old)
-type_over_old from None old = refl
-type_over_old from (Some name) old = refl
+-- the type that these layers give, the first of them first
+abbrev type_names : List DictOf → Option (List ℕ)
+type_names ds = option_map (λ t. t.name) (first_said (λ d. type_said_in d.ext d.entry.type_name) ds)
+
+type_over_old : (from : List ℕ) (t : Option (List ℕ)) (ds : List DictOf)
+    → option_map (λ s. s.name) (option_or (type_said_in from t) (first_said (λ d. type_said_in d.ext d.entry.type_name) ds)) ≡ option_or t (type_names ds)
+type_over_old from None ds = refl
+type_over_old from (Some name) ds = refl
 
 members_over_old : (new old : List EnumMember) → first_of_each (λ m. m.key) (new ++ old) ≡ first_of_each (λ m. m.key) (new ++ first_of_each (λ m. m.key) old)
 members_over_old [] old = sym (first_of_each-by_name (λ m. m.key) (first_of_each (λ m. m.key) old) (IsByName-first_of_each (λ m. m.key) old))
@@ -65,7 +70,7 @@ members_over_old (m ∷ new) old = ap (put_by_name (λ m. m.key) m) (members_ove
 said_more : (name : List ℕ) (d : DictOf) (ds : List DictOf) → said_by name (d ∷ ds) ≡ entry_over d.entry (said_by name ds)
 said_more name d ds =
     let after = said_by name (d ∷ ds) in
-    let type_name = type_over_old d.ext d.entry.type_name (first_said (λ x. type_said_in x.ext x.entry.type_name) ds) in
+    let type_name = type_over_old d.ext d.entry.type_name ds in
     let members = members_over_old d.entry.members (flat_map (λ (x : DictOf). x.entry.members) ds) in
     λ i. record {
       name = name;

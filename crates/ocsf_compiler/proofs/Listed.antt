@@ -1,5 +1,5 @@
 -- What stands under the names that a bundle lists stands by name.
-use Rattle.std.proofs.Common.{◌≡◌, ℕ, List, [], ◌∷◌, ◌++◌, map, Bool, true, false, if◌then◌else◌, Option, Some, None, Result, Ok, Err, IfOk, codes, refl, sym, subst}
+use Rattle.std.proofs.Common.{◌≡◌, ℕ, List, [], ◌∷◌, map, Bool, true, false, if◌then◌else◌, Option, Some, None, Result, Ok, Err, IfOk, codes, refl, sym, subst}
 use Rattle.std.specs.Prelude.{All, flat_map, filter_map, is_some}
 use Rattle.std.specs.Option.{IfSome}
 use Rattle.std.specs.Result.{result_ok}
@@ -19,7 +19,6 @@ use Rattle.ocsf_bundle.specs.Active.{active_files}
 use Rattle.ocsf_bundle.specs.Keys.{profile_given}
 use Rattle.ocsf_bundle.specs.Looks.{Looks}
 use Rattle.ocsf_bundle.specs.Listing.{attribute_names, type_names, category_keys, in_byte_order, listing}
-use Rattle.ocsf_item.specs.Attribute.{dict_said}
 use Rattle.ocsf_item.specs.MergedDictionary.{merged_entry, merged_type}
 use Rattle.ocsf_compiler.proofs.ByNames.{IsByName-filter_map, IsByName-map}
 use Rattle.ocsf_compiler.proofs.Layered.{said_by_key}

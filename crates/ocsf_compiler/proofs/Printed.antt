@@ -1,28 +1,26 @@
 -- What is printed of the parts of cells and of the merged dictionaries.
-use Rattle.std.proofs.Common.{◌≡◌, ℕ, zero, ◌<◌, ◌^◌, List, [], ◌∷◌, ◌++◌, map, append_assoc, Option, Some, None, unwrap_or, false, codes, refl, sym, ap, ◌∙◌, arith}
+use Rattle.std.proofs.Common.{◌≡◌, ℕ, ◌<◌, ◌^◌, List, [], ◌∷◌, ◌++◌, map, append_assoc, Option, Some, None, unwrap_or, false, codes, refl, sym, ap, ◌∙◌}
 use Rattle.std.specs.Prelude.{slice_get, filter_map}
 use Rattle.std.specs.Option.{IfSome, option_map, option_and_then}
 use Rattle.std.specs.List.{cons_option}
 use Rattle.std.proofs.lemmas.List.{append-nil}
 use Rattle.ocsf_tree.specs.declared.tree.Tree.{Tree}
 use Rattle.ocsf_tree.specs.declared.tree.Tree.TheVariants as tree
-use Rattle.ocsf_tree.specs.declared.tree.Member.{Member}
 use Rattle.ocsf_tree.specs.declared.attribute.Span.{Span}
 use Rattle.ocsf_tree.specs.Valid.{IsValid, IsValidList}
 use Rattle.ocsf_tree.proofs.Valid.{list_valid}
 use Rattle.ocsf_raw.specs.declared.attribute.RawAttr.{RawAttr}
 use Rattle.ocsf_raw.specs.declared.dictionary.DictEntry.{DictEntry}
 use Rattle.ocsf_raw.specs.declared.dictionary.TypeEntry.{TypeEntry}
-use Rattle.ocsf_raw.specs.declared.files.CategoryEntry.{CategoryEntry}
 use Rattle.ocsf_raw.specs.declared.files.ExtFile.{ExtFile}
 use Rattle.ocsf_raw.specs.declared.files.ProfileFile.{ProfileFile}
 use Rattle.ocsf_raw.specs.Ordered.{IsByKey, IsSpanValid, IsTypeValid}
 use Rattle.ocsf_schema.specs.Print.{words, number, flag, enumeration}
 use Rattle.ocsf_schema.proofs.ValidFragments.{IsValidField, object_of_valid, words_valid, number_valid, flag_valid, words_list_valid, enumeration_valid}
 use Rattle.ocsf_bundle.specs.Looks.{Looks, CategoryOf, BuiltIn, Listed, show_category}
-use Rattle.ocsf_bundle.specs.Shown.{Shown, Ext, Profile}
+use Rattle.ocsf_bundle.specs.Shown.{Ext, Profile}
 use Rattle.ocsf_item.specs.Names.{first_of}
-use Rattle.ocsf_item.specs.Compiled.{category_caption, category_number}
+use Rattle.ocsf_item.specs.Compiled.{category_of, category_number}
 use Rattle.ocsf_item.specs.PrintedSchema.{member, member_of, category_description, category_tree, extension_tree, profile_tree, texts_tree, entry_tree, span_tree, type_tree}
 use Rattle.ocsf_compiler.specs.declared.sections.Section.{Section}
 use Rattle.ocsf_compiler.specs.declared.sections.Section.TheVariants as section
@@ -44,14 +42,14 @@ seven_joined a b c d e f g = simp (append_assoc, append-nil)
 number_fits : (name : List ℕ) (n : ℕ) → n < 2 ^ 64 → IsValidField (name, number (Some n))
 number_fits name n h = number_valid name (Some n) h
 
-pub category_valid : (c : CategoryOf) → category_number c < 2 ^ 64 → IsValid (category_tree c)
+pub category_valid : (c : CategoryOf) → category_number (category_of [] c) < 2 ^ 64 → IsValid (category_tree c)
 category_valid c h =
     object_of_valid (
-    (codes "caption", words (category_caption c))
+    (codes "caption", words ((category_of [] c).caption))
     ∷ (codes "description", words (category_description c))
-    ∷ (codes "uid", number (Some (category_number c)))
+    ∷ (codes "uid", number (Some (category_number (category_of [] c))))
     ∷ []) refl
-    (words_valid (codes "caption") (category_caption c), (words_valid (codes "description") (category_description c), (number_fits (codes "uid") (category_number c) h, tt)))
+    (words_valid (codes "caption") ((category_of [] c).caption), (words_valid (codes "description") (category_description c), (number_fits (codes "uid") (category_number (category_of [] c)) h, tt)))
 
 pub extension_valid : (ext : ExtFile) → ext.uid < 2 ^ 64 → IsValid (extension_tree ext)
 extension_valid ext h =

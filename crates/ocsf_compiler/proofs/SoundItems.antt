@@ -1,5 +1,5 @@
 -- Items without faults.
-use Rattle.std.proofs.Common.{◌≡◌, ℕ, List, [], ◌∷◌, map, Bool, ◌&&◌, Option, Some, None, refl, ◌∙◌, ap, subst}
+use Rattle.std.proofs.Common.{◌≡◌, ℕ, List, [], ◌∷◌, map, ◌&&◌, Option, Some, None, refl, ◌∙◌, ap, subst}
 use Rattle.std.specs.List.{filter_map, cons_option}
 use Rattle.std.specs.Ordering.{is_lt}
 use Rattle.std.specs.FinMap.Entries.{below_all}

@@ -1,5 +1,5 @@
 -- For private clauses: items one by one, and what is wrong with what they make together.
-use Rattle.std.specs.Prelude.{◌≡◌, ℕ, Bool, false, List, length, codes, decimal, nat_lt, Option, Some, None, ⊤}
+use Rattle.std.specs.Prelude.{◌≡◌, ℕ, Bool, false, List, codes, decimal, nat_lt, Option, Some, None, ⊤}
 use Rattle.std.specs.Option.{option_map_or, option_and_then}
 use Rattle.ocsf_tree.specs.declared.fault.Fault.{Fault}
 use Rattle.ocsf_tree.specs.declared.fault.Code.TheVariants as code

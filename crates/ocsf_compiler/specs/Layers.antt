@@ -1,5 +1,5 @@
 -- For private clauses: one layer of the dictionaries more.
-use Rattle.std.specs.Prelude.{ℕ, List, ◌++◌, Option, Some, None}
+use Rattle.std.specs.Prelude.{◌++◌, Option, Some, None}
 use Rattle.std.specs.Option.{option_or}
 use Rattle.ocsf_tree.specs.FirstOfEach.{first_of_each}
 use Rattle.ocsf_raw.specs.declared.dictionary.DictEntry.{DictEntry}

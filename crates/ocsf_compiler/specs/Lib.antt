@@ -1,3 +1,4 @@
 pub mod Building
+pub mod Compiles
 pub mod Layers
 pub mod Sections

@@ -1,5 +1,5 @@
 -- For private clauses: what is printed of the categories, the extensions and the profiles, cell by cell.
-use Rattle.std.specs.Prelude.{ℕ, List, Option, Some, None, filter_map, slice_get}
+use Rattle.std.specs.Prelude.{ℕ, List, Option, Some, None, slice_get}
 use Rattle.std.specs.Option.{option_map, option_and_then}
 use Rattle.ocsf_tree.specs.declared.tree.Tree.{Tree}
 use Rattle.ocsf_tree.specs.declared.tree.Member.{Member}

@@ -1,26 +1,34 @@
 // A bundle compiled from scratch.
-ghost use Rattle.std.specs.Prelude.{◌≡◌, IfOk, IfErr, OnOk};
+ghost use Rattle.std.specs.Prelude.{◌≡◌, None, IfOk, IfErr, OnOk, All};
+ghost use Rattle.ocsf_tree.specs.ByName.{IsByName};
+ghost use Rattle.ocsf_raw.specs.Ordered.{IsTypeValid};
 ghost use Rattle.ocsf_item.specs.Compilation.{IsCompilation};
-ghost use Rattle.ocsf_item.specs.Verdict.{bundle_fault, IsFaultless};
+ghost use Rattle.ocsf_item.specs.Verdict.{types_of, bundle_fault, IsFaultless, IsVerdict};
 ghost use Rattle.ocsf_compiler.specs.Building.{IsLeast};
+ghost use Rattle.ocsf_compiler.specs.Compiles.{IsRefusedFor};
 
 use crate::compile_error::CompileError;
 use crate::items::items_of;
-use crate::parts::parts_of;
+use crate::parts::{parts_of, types_of};
+use crate::patterns::pattern_fault;
 use crate::schema_fault::schema_fault;
 use ocsf_bundle::Bundle;
+use ocsf_raw::TypeEntry;
 use ocsf_schema::{Schema, Steps};
 use ocsf_tree::TryClone;
 use std::alloc::Global;
 use std::sync::ledger::Ledger;
 
-/// The schema that the bundle is compiled to, from its files alone, or the least fault of the bundle. It
-/// counts a step an item. Patterns are passed by.
-pub fn compile<L: Ledger>(
+/// The schema of a bundle whose listed types, merged, are these. Patterns are passed by.
+fn schema_of<L: Ledger>(
     alloc: Global,
     bundle: &Bundle,
+    types: &[TypeEntry],
     steps: &mut Steps<L>,
 ) -> Result<Schema, CompileError>
+    requires types { types.now ≡ types_of bundle.now }
+    requires by_name { IsByName (λ entry. entry.name) types.now }
+    requires valid { All IsTypeValid types.now }
     ensures schema { IfOk result (IsCompilation bundle.now) }
     ensures faultless { OnOk result (IsFaultless bundle.now) }
     ensures fault { IfErr result (IsLeast (bundle_fault bundle.now)) }
@@ -30,9 +38,29 @@ pub fn compile<L: Ledger>(
     }
     let pieces = items_of(alloc, bundle, steps)?;
     let items = pieces.try_clone()?;
-    let parts = parts_of(alloc, bundle, pieces)?;
+    let parts = parts_of(alloc, bundle, types, pieces)?;
     let schema = Schema::of(alloc, parts)?;
     match schema_fault(alloc, &schema, items.as_slice())? {
+        Some(fault) => Err(CompileError::Fault(fault)),
+        None => Ok(schema),
+    }
+}
+
+/// The schema that the bundle is compiled to, from its files alone. It is refused by its least fault,
+/// and where it has none by the first type whose pattern `regex` doesn't take. A step is counted for each
+/// item that is looked at.
+pub fn compile<L: Ledger>(
+    alloc: Global,
+    bundle: &Bundle,
+    steps: &mut Steps<L>,
+) -> Result<Schema, CompileError>
+    ensures schema { IfOk result (IsCompilation bundle.now) }
+    ensures clean { OnOk result (IsVerdict bundle.now None) }
+    ensures refused { IfErr result (IsRefusedFor bundle.now) }
+{
+    let types = types_of(alloc, bundle)?;
+    let schema = schema_of(alloc, bundle, types.as_slice(), steps)?;
+    match pattern_fault(alloc, types.as_slice())? {
         Some(fault) => Err(CompileError::Fault(fault)),
         None => Ok(schema),
     }

@@ -2,16 +2,17 @@
 #![tactic(auto)]
 
 mod attributes;
-mod compile;
 mod compile_error;
+mod compiling;
 mod items;
 mod kinds;
 mod parts;
+mod patterns;
 mod schema_fault;
 mod sections;
 mod tables;
 mod types;
 
-pub use compile::compile;
 pub use compile_error::CompileError;
+pub use compiling::compile;
 pub use parts::{parts_of, types_of};

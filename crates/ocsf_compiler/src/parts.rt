@@ -153,12 +153,17 @@ fn assembled(
     }
 }
 
-/// What the bundle is compiled to, with these in place of its items.
+/// What the bundle is compiled to, with these in place of its items. The types are its listed types,
+/// merged.
 pub fn parts_of(
     alloc: Global,
     bundle: &Bundle,
+    types: &[TypeEntry],
     pieces: Row<Shared<Piece>>,
 ) -> Result<SchemaParts, AllocError>
+    requires types { types.now ≡ types_of bundle.now }
+    requires by_name { IsByName (λ entry. entry.name) types.now }
+    requires valid { All IsTypeValid types.now }
     ensures parts { IfOk result (λ parts. parts ≡ record (compilation bundle.now) { pieces = pieces }) }
     ensures kinds { IfOk result (λ parts. IsByName (λ kind. kind.name) parts.kinds) }
     ensures categories { IfOk result (λ parts. IsValid parts.categories) }
@@ -167,10 +172,9 @@ pub fn parts_of(
     ensures profiles { IfOk result (λ parts. IsValid parts.profiles) }
     ensures types { IfOk result (λ parts. IsValid parts.types) }
 {
-    let types = types_of(alloc, bundle)?;
-    let kinds = kinds_of(alloc, bundle, types.as_slice())?;
+    let kinds = kinds_of(alloc, bundle, types)?;
     let sections = sections_of(alloc, bundle)?;
-    let tables = tables_of(alloc, bundle, types.as_slice())?;
+    let tables = tables_of(alloc, bundle, types)?;
     let version = version_of(alloc, bundle)?;
     Ok(assembled(pieces, kinds, sections, tables, version))
 }

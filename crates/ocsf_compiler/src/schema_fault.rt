@@ -3,6 +3,7 @@ ghost use Rattle.std.specs.Prelude.{◌≡◌, ◌++◌, IfOk, length, decimal, 
 ghost use Rattle.std.specs.Option.{option_or};
 ghost use Rattle.ocsf_tree.specs.LeastFault.{least_fault};
 ghost use Rattle.ocsf_schema.specs.Schema.{schema_text};
+ghost use Rattle.ocsf_bundle.specs.OwnFaults.{lesser_of};
 ghost use Rattle.ocsf_item.specs.SchemaFaults.{comes_before};
 ghost use Rattle.ocsf_item.specs.ItemFaults.{fault};
 ghost use Rattle.ocsf_compiler.specs.Building.{is_taken_in, clash_of, clash_in, large_fault};
@@ -67,6 +68,16 @@ fn clash_in(alloc: Global, schema: &Schema, item: &Item) -> Result<Option<Fault>
     }
 }
 
+/// The lesser of the least fault so far and one that there may be besides.
+fn lesser_of(least: Option<Fault>, fault: Option<Fault>) -> Option<Fault>
+    ensures { result ≡ lesser_of least fault }
+{
+    match fault {
+        Some(fault) => lesser_fault(least, fault),
+        None => least,
+    }
+}
+
 /// The least fault of classes that have the number of one of a lesser key.
 fn uid_clash(
     alloc: Global,
@@ -77,9 +88,7 @@ fn uid_clash(
 {
     let mut least = None;
     for piece in pieces {
-        if let Some(fault) = clash_in(alloc, schema, piece.get().item())? {
-            least = lesser_fault(least, fault);
-        }
+        least = lesser_of(least, clash_in(alloc, schema, piece.get().item())?);
     }
     Ok(least)
 }

@@ -1,8 +1,8 @@
 // What items come to over small files, and their least faults.
 ghost use Rattle.std.specs.Prelude.{◌≡◌};
 
-use ocsf_item::{BuildError, build_item};
 use ocsf_bundle::{Bundle, edit_of};
+use ocsf_item::{BuildError, build_item};
 use ocsf_schema::Steps;
 use ocsf_tree::{Key, Side, Text, read};
 use std::alloc::Global;

@@ -2,8 +2,8 @@ ghost use Rattle.std.specs.Prelude.{◌≡◌, ◌+◌, ◌%◌, ◌^◌, ◌==�
 ghost use Rattle.std.proofs.Common.{arith, subst, sym};
 ghost use Rattle.std.proofs.lemmas.List.{take-take};
 
-use ocsf_lines::{LineMachine, LinesEnd, Reply, run_lines};
 use ocsf_edge::{Bytes, Failed, MemorySink, MemorySource, Seq, Sink, write_all};
+use ocsf_lines::{LineMachine, LinesEnd, Reply, run_lines};
 use std::alloc::{AllocError, Global};
 use std::test::Fail;
 

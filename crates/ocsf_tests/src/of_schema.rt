@@ -4,8 +4,8 @@ ghost use Rattle.ocsf_tree.specs.ByName.{IsByName};
 ghost use Rattle.ocsf_tree.specs.Key.{side_text, key_text};
 ghost use Rattle.ocsf_schema.specs.Lookups.{IsByKey};
 
-use ocsf_schema::{Attr, Base, Item, Kind, Piece, Schema, SchemaParts, Steps, Target};
 use ocsf_edge::{MemorySink, Seq};
+use ocsf_schema::{Attr, Base, Item, Kind, Piece, Schema, SchemaParts, Steps, Target};
 use ocsf_tree::{Key, Requirement, Row, Shared, Side, Text, read};
 use std::alloc::{AllocError, Global};
 use std::marker::Brand;

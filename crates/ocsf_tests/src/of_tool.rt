@@ -1,8 +1,8 @@
-use ocsf_tool::{Status, run};
 use ocsf_edge::{
     Bytes, Kept, MemorySink, MemorySource, Seq, Sink, Source, SureFolder, SureKeeper, SureSink,
     SureSource,
 };
+use ocsf_tool::{Status, run};
 use ocsf_tree::{Row, Text};
 use std::alloc::{AllocError, Global};
 use std::test::Fail;

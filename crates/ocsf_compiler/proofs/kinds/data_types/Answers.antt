@@ -1,4 +1,4 @@
-use Rattle.std.proofs.Common.{◌≡◌, ℕ, List, [], ◌∷◌, ◌++◌, IfOk, codes, sym, ap, subst, ◌∙◌}
+use Rattle.std.proofs.Common.{◌≡◌, ℕ, List, ◌++◌, IfOk, codes, sym, ap, subst, ◌∙◌}
 use Rattle.ocsf_tree.specs.ByName.{put_by_name}
 use Rattle.ocsf_tree.proofs.FirstOfEach.{first_of_each-by_name}
 use Rattle.ocsf_bundle.specs.Listing.{in_byte_order}

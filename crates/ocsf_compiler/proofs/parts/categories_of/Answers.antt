@@ -2,6 +2,7 @@ use Rattle.std.proofs.Common.{◌≡◌, ℕ, List, IfOk, sym, subst, rules}
 use Rattle.ocsf_tree.specs.ByName.{IsByName}
 use Rattle.ocsf_bundle.specs.FilesLook.{looks}
 use Rattle.ocsf_bundle.specs.Listing.{listing}
+use Rattle.ocsf_item.specs.Compilation.{compilation}
 use Rattle.ocsf_item.specs.PrintedSchema.{schema_parts}
 use Rattle.ocsf_compiler.specs.declared.sections.Section.TheVariants as section
 use Rattle.ocsf_compiler.specs.Sections.{section_tree}
@@ -15,7 +16,7 @@ section_tree-requires c =
     subst P (sym is) (categories_by_name c.args.bundle.now)
 
 pub returns-clause-tree : goal.returns-clause-tree
-unfolding schema_parts
+unfolding compilation schema_parts
 returns-clause-tree c =
     let bundle = c.args.bundle.now in
     let is : c.as_slice.result.now ≡ (listing bundle).categories = search rules in

@@ -1,4 +1,4 @@
-use Rattle.std.proofs.Common.{◌≡◌, ℕ, List, IfOk, map, sym, ap, subst, ◌∙◌, rules}
+use Rattle.std.proofs.Common.{◌≡◌, List, IfOk, map, sym, ap, subst, ◌∙◌, rules}
 use Rattle.std.specs.Prelude.{All}
 use Rattle.ocsf_tree.specs.ByName.{IsByName}
 use Rattle.ocsf_tree.specs.declared.tree.Tree.TheVariants as tree
@@ -7,6 +7,7 @@ use Rattle.ocsf_raw.specs.Ordered.{IsByKey}
 use Rattle.ocsf_bundle.specs.FilesLook.{looks}
 use Rattle.ocsf_bundle.specs.Listing.{listing}
 use Rattle.ocsf_item.specs.MergedDictionary.{merged_entry}
+use Rattle.ocsf_item.specs.Compilation.{compilation}
 use Rattle.ocsf_item.specs.PrintedSchema.{schema_parts, member, entry_tree}
 use Rattle.ocsf_compiler.proofs.Listed.{attributes_by_name, entries_by_name, entries_by_key}
 use Rattle.ocsf_compiler.proofs.parts.dictionary_of.Goals as goal
@@ -29,7 +30,7 @@ dictionary_tree-requires-clause-by_key c =
     subst P (sym entries) (entries_by_key b c.as_slice.result.now)
 
 pub returns-clause-tree : goal.returns-clause-tree
-unfolding schema_parts
+unfolding compilation schema_parts
 returns-clause-tree c =
     let bundle = c.args.bundle.now in
     let b = looks bundle.files bundle.enabled in

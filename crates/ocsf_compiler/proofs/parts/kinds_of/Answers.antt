@@ -5,8 +5,9 @@ use Rattle.ocsf_tree.specs.ByName.{IsByName}
 use Rattle.ocsf_raw.specs.declared.dictionary.TypeEntry.{TypeEntry}
 use Rattle.ocsf_schema.specs.declared.records.Kind.{Kind}
 use Rattle.ocsf_kind.specs.Kinds.{kind_of}
-use Rattle.ocsf_bundle.specs.Listing.{in_byte_order, listing}
+use Rattle.ocsf_bundle.specs.Listing.{in_byte_order}
 use Rattle.ocsf_item.specs.MergedDictionary.{base_types}
+use Rattle.ocsf_item.specs.Compilation.{compilation}
 use Rattle.ocsf_item.specs.PrintedSchema.{schema_parts}
 use Rattle.ocsf_item.specs.Verdict.{types_of}
 use Rattle.ocsf_compiler.proofs.Listed.{types_by_name, in_order, kinds_by_name, carried}
@@ -18,7 +19,7 @@ data_types-requires c =
     subst P (sym c.in_ok-listed.ensures) (types_by_name c.args.bundle.now)
 
 pub returns-clause-kinds : goal.returns-clause-kinds
-unfolding schema_parts
+unfolding compilation schema_parts
 returns-clause-kinds c =
     let names : c.as_slice.result.now ≡ in_byte_order (base_types ++ c.in_ok-listed.listed) = search rules in
     let P : List TypeEntry → List (List ℕ) → Type 0 = λ ts l. IfOk c.kinds.result (λ made. made ≡ filter_map (λ name. result_ok (kind_of ts name)) l) in

@@ -1,10 +1,10 @@
-use Rattle.std.proofs.Common.{◌≡◌, List, sym, ◌∙◌}
-use Rattle.ocsf_tree.specs.declared.tree.Tree.{Tree}
+use Rattle.std.proofs.Common.{◌∙◌}
+use Rattle.ocsf_item.specs.Compilation.{compilation}
 use Rattle.ocsf_item.specs.PrintedSchema.{schema_parts}
 use Rattle.ocsf_compiler.proofs.parts.parts_of.Goals as goal
 
 pub returns-clause-parts : goal.returns-clause-parts
-unfolding schema_parts
+unfolding compilation schema_parts
 returns-clause-parts c =
     let kinds = c.in_ok-kinds.ensures.kinds in
     let categories = c.in_ok-sections.ensures.categories in

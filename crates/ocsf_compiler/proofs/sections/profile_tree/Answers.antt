@@ -1,9 +1,9 @@
-use Rattle.std.proofs.Common.{◌≡◌, ◌++◌, map, Some, codes, sym, ap, subst, ◌∙◌, rules}
+use Rattle.std.proofs.Common.{◌≡◌, map, Some, codes, sym, ap, subst, rules}
 use Rattle.ocsf_tree.specs.declared.tree.Tree.TheVariants as tree
 use Rattle.ocsf_tree.specs.Valid.{IsValid}
 use Rattle.ocsf_raw.specs.declared.attribute.RawAttr.{RawAttr}
 use Rattle.ocsf_schema.specs.Print.{shown, words}
-use Rattle.ocsf_item.specs.PrintedSchema.{texts_tree, profile_tree}
+use Rattle.ocsf_item.specs.PrintedSchema.{texts_tree}
 use Rattle.ocsf_compiler.proofs.Printed.{three_joined, profile_valid}
 use Rattle.ocsf_compiler.proofs.sections.profile_tree.Goals as goal
 

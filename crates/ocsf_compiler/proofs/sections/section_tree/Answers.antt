@@ -1,6 +1,5 @@
-use Rattle.std.proofs.Common.{◌≡◌, ℕ, List, [], ◌∷◌, ◌++◌, map, length, take, Option, Some, None, sym, ap, subst, ◌∙◌, arith, rules}
+use Rattle.std.proofs.Common.{◌≡◌, List, [], ◌∷◌, ◌++◌, take, Some, None, sym, ap, subst, ◌∙◌, arith, rules}
 use Rattle.std.specs.Prelude.{All, filter_map}
-use Rattle.std.specs.Option.{IfSome}
 use Rattle.std.proofs.lemmas.List.{take_all}
 use Rattle.std.proofs.lemmas.List.Elements.{All-push}
 use Rattle.ocsf_tree.specs.ByName.{IsByName}
@@ -8,7 +7,7 @@ use Rattle.ocsf_tree.specs.Valid.{IsValid}
 use Rattle.ocsf_tree.specs.declared.tree.Tree.TheVariants as tree
 use Rattle.ocsf_tree.specs.declared.tree.Member.{Member}
 use Rattle.ocsf_raw.proofs.FilterMaps.{filter_map-kept, filter_map-passed}
-use Rattle.ocsf_compiler.specs.Sections.{member_at, section_tree}
+use Rattle.ocsf_compiler.specs.Sections.{member_at}
 use Rattle.ocsf_compiler.proofs.ByNames.{IsByName-filter_map, members_valid}
 use Rattle.ocsf_compiler.proofs.Printed.{section-members, member_at-name}
 use Rattle.ocsf_compiler.proofs.sections.section_tree.Goals as goal

@@ -1,0 +1,7 @@
+use Rattle.std.proofs.Common.{take}
+use Rattle.std.specs.Prelude.{All}
+use Rattle.ocsf_item.specs.Verdict.{HasReadPattern}
+use Rattle.ocsf_compiler.proofs.patterns.pattern_fault.Given as goal
+
+abbrev pub invariant-loop-entry : goal.invariant-loop-entry
+invariant-loop-entry l = All HasReadPattern (take l.entry-index l.types)

@@ -1,0 +1,11 @@
+-- Why a bundle has no compilation.
+use Rattle.std.specs.Prelude.{Some, ⊤}
+use Rattle.ocsf_bundle.specs.Stored.{Stored}
+use Rattle.ocsf_item.specs.Verdict.{IsVerdict}
+use Rattle.ocsf_compiler.specs.declared.compile_error.CompileError.{CompileError}
+use Rattle.ocsf_compiler.specs.declared.compile_error.CompileError.TheVariants as error
+
+-- the fault is a verdict on the bundle; want of memory says nothing
+abbrev pub IsRefusedFor : Stored → CompileError → Type 0
+IsRefusedFor bundle (error.Fault fault) = IsVerdict bundle (Some fault)
+IsRefusedFor bundle error.Memory = ⊤
