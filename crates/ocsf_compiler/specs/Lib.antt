@@ -1,4 +1,5 @@
 pub mod Building
 pub mod Compiles
+pub mod Laws
 pub mod Layers
 pub mod Sections
