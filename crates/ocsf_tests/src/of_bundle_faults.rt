@@ -1,346 +1,239 @@
-use ocsf_bundle::{Bundle, edit_of};
-use ocsf_tree::read;
+ghost use Rattle.std.specs.Prelude.{All, IfOk};
+ghost use Rattle.ocsf_bundle.specs.Edits.{IsValidChange};
+
+use ocsf_bundle::{Bundle, Edit, edit_of};
+use ocsf_tree::{Fault, read};
+use std::alloc::{AllocError, Global};
+use std::process::Abort;
 use std::test::Fail;
 
-// The least fault of the files after the edit, in a line.
-fn fault_of(rt: &HostRuntime, text: &str) -> Result<String, Fail> {
-    let alloc = rt.alloc();
-    let edit = edit_of(alloc, &read(alloc, text.as_bytes())?)?;
-    let bundle = Bundle::empty(alloc).after(&edit)?;
+// What is asked in a row of a table, and what is wanted.
+fn halves(row: &str) -> (&str, &str) {
+    match row.split_once(" => ") {
+        Some(halves) => halves,
+        None => (row, "no answer"),
+    }
+}
+
+fn push_word(line: &mut String, word: &str) -> Result<(), AllocError> {
+    line.push_str(word)?;
+    line.push(';')
+}
+
+fn fault_line(alloc: Global, fault: &Fault) -> Result<String, AllocError> {
+    let mut line = String::new(alloc);
+    push_word(&mut line, fault.code.as_str())?;
+    push_word(&mut line, fault.subject.as_str())?;
+    line.push_str(fault.name.as_str())?;
+    Ok(line)
+}
+
+// The least fault of the files, in a line.
+fn own_fault_line(alloc: Global, bundle: &Bundle) -> Result<String, AllocError> {
     match bundle.own_fault()? {
-        Some(fault) => Ok(format!(in alloc;
-            "{} {} {}",
-            fault.code.as_str(),
-            fault.subject.as_str(),
-            fault.name.as_str()
-        )?),
-        None => Ok(String::from_str(alloc, "none")?),
+        Some(fault) => fault_line(alloc, &fault),
+        None => String::from_str(alloc, "none"),
     }
 }
 
-// The files of two extensions that are enabled, `e` of the greater uid, and these changes.
-fn beside_extensions(rt: &HostRuntime, changes: &str) -> Result<String, Fail> {
-    fault_of(
-        rt,
-        &format!(in rt.alloc();
-            r#"[{{"put":"extensions/e/extension.json","body":{{"name":"e","uid":9}}}},
-{{"put":"extensions/f/extension.json","body":{{"name":"f","uid":2}}}},{{"enable":"e"}},{{"enable":"f"}},{changes}]"#
-        )?,
-    )
+fn edit_in(alloc: Global, text: &str) -> Result<Edit, Fail>
+    ensures { IfOk result (λ edit. All IsValidChange edit.changes) }
+{
+    let tree = read(alloc, text.as_bytes())?;
+    let edit = edit_of(alloc, &tree)?;
+    Ok(edit)
 }
 
-#[test]
-fn finds_unknown_extensions_and_clashes(rt: HostRuntime) -> Result<(), Fail> {
-    let rows: [(&str, &str); 12] = [
-        ("[]", "none"),
-        (r#"[{"enable":"f"},{"enable":"e"}]"#, "extension_unknown e "),
-        (
-            r#"[{"put":"extensions/e/extension.json","body":{"name":"f","uid":1}},{"enable":"f"}]"#,
-            "none",
-        ),
-        (
-            r#"[{"put":"events/a.json","body":{"name":"k"}},{"put":"objects/a.json","body":{"name":"k"}}]"#,
-            "none",
-        ),
-        (
-            r#"[{"put":"events/c.json","body":{"name":"k"}},{"put":"events/a.json","body":{"name":"k"}},{"put":"events/b.json","body":{"name":"k"}}]"#,
-            "key_clash class:k events/b.json",
-        ),
-        (
-            r#"[{"put":"objects/b.json","body":{"name":"k"}},{"put":"objects/a.json","body":{"name":"k"}}]"#,
-            "key_clash object:k objects/b.json",
-        ),
-        (
-            r#"[{"put":"profiles/a.json","body":{"name":"p"}},{"put":"profiles/b.json","body":{"name":"p"}}]"#,
-            "key_clash profile:p profiles/b.json",
-        ),
-        (
-            r#"[{"put":"extensions/e/extension.json","body":{"name":"e","uid":1}},{"put":"extensions/e/events/a.json","body":{"name":"k"}},
-{"put":"extensions/e/events/b.json","body":{"name":"k"}},{"put":"events/k.json","body":{"name":"k"}},{"enable":"e"}]"#,
-            "key_clash class:e/k extensions/e/events/b.json",
-        ),
-        (
-            r#"[{"put":"extensions/a/extension.json","body":{"name":"e","uid":1}},{"put":"extensions/b/extension.json","body":{"name":"e","uid":2}}]"#,
-            "none",
-        ),
-        (
-            r#"[{"put":"extensions/a/extension.json","body":{"name":"e","uid":1}},{"put":"extensions/b/extension.json","body":{"name":"e","uid":2}},{"enable":"e"}]"#,
-            "key_clash extension:e extensions/b/extension.json",
-        ),
-        (
-            r#"[{"put":"extensions/a/extension.json","body":{"name":"f","uid":1}},{"put":"extensions/b/extension.json","body":{"name":"e","uid":1}},
-{"put":"extensions/c/extension.json","body":{"name":"g","uid":1}},{"enable":"e"},{"enable":"f"},{"enable":"g"}]"#,
-            "uid_taken extension:f 1",
-        ),
-        (
-            r#"[{"put":"extensions/a/extension.json","body":{"name":"f","uid":1}},{"put":"extensions/b/extension.json","body":{"name":"e","uid":1}},{"enable":"f"}]"#,
-            "none",
-        ),
-    ];
-    for (text, want) in rows {
-        assert_eq!(rt; fault_of(&rt, text)?.as_str(), want, "at {text}");
+fn after(alloc: Global, bundle: &Bundle, text: &str) -> Result<Bundle, Fail> {
+    let edit = edit_in(alloc, text)?;
+    Ok(bundle.after(&edit)?)
+}
+
+fn own_fault_after(alloc: Global, files: &Bundle, text: &str) -> Result<String, Fail> {
+    let bundle = after(alloc, files, text)?;
+    Ok(own_fault_line(alloc, &bundle)?)
+}
+
+fn check_row(rt: &impl Abort, alloc: Global, files: &Bundle, row: &str) -> Result<(), Fail> {
+    let (text, want) = halves(row);
+    let line = own_fault_after(alloc, files, text)?;
+    assert_eq!(rt; line.as_str(), want, "after {text}");
+    Ok(())
+}
+
+fn check_rows(rt: &impl Abort, alloc: Global, files: &Bundle, rows: &str) -> Result<(), Fail> {
+    for row in rows.lines() {
+        check_row(rt, alloc, files, row)?;
     }
     Ok(())
 }
 
-#[test]
-fn finds_category_numbers_that_are_taken(rt: HostRuntime) -> Result<(), Fail> {
-    let rows: [(&str, &str); 8] = [
-        (r#""a":{"uid":7},"b":{"uid":8}"#, "none"),
-        (
-            r#""c":{"uid":7},"b":{"uid":7},"a":{"uid":7}"#,
-            "uid_taken category:b 7",
-        ),
-        (r#""zero":{"uid":0}"#, "uid_taken category:zero 0"),
-        (r#""a":{"uid":0}"#, "uid_taken category:other 0"),
-        (
-            r#""a":{"uid":0},"zero":{"uid":0}"#,
-            "uid_taken category:other 0",
-        ),
-        (r#""other":{"uid":3},"zero":{"uid":0}"#, "none"),
-        (
-            r#""b":{"uid":3},"other":{"uid":3}"#,
-            "uid_taken category:other 3",
-        ),
-        (r#""other":{"uid":0}"#, "none"),
-    ];
-    for (categories, want) in rows {
-        let text = format!(in rt.alloc();
-            r#"[{{"put":"categories.json","body":{{"attributes":{{{categories}}}}}}}]"#
-        )?;
-        assert_eq!(rt; fault_of(&rt, &text)?.as_str(), want, "at {categories}");
-    }
-    // An extension's number starts with its uid; those of extensions of one uid meet.
-    let own =
-        r#"{"put":"extensions/e/categories.json","body":{"attributes":{"a":{"uid":0},"b":{"uid":1}}}},
-{"put":"categories.json","body":{"attributes":{"a":{"uid":1},"b":{"uid":9}}}}"#;
-    assert_eq!(rt; beside_extensions(&rt, own)?.as_str(), "none");
-    let met = r#"{"put":"extensions/e/extension.json","body":{"name":"e","uid":2}},
-{"put":"extensions/e/categories.json","body":{"attributes":{"c":{"uid":1}}}},
-{"put":"extensions/f/categories.json","body":{"attributes":{"a":{"uid":1}}}}"#;
-    assert_eq!(rt;
-        beside_extensions(&rt, met)?.as_str(),
-        "uid_taken category:f/a 201"
-    );
-    Ok(())
+// Asks for the least fault after each of the edits on the files that the first one leaves.
+fn check(rt: &impl Abort, alloc: Global, first: &str, rows: &str) -> Result<(), Fail> {
+    let none = Bundle::empty(alloc);
+    let files = after(alloc, &none, first)?;
+    check_rows(rt, alloc, &files, rows)
 }
+
+const ALONE: &str = r#"[] => none
+[{"enable":"f"},{"enable":"e"}] => extension_unknown;e;
+[{"put":"extensions/e/extension.json","body":{"name":"f","uid":1}},{"enable":"f"}] => none
+[{"put":"extensions/e/extension.json","body":{"name":"f","uid":1}},{"enable":"e"}] => extension_unknown;e;
+[{"put":"events/a.json","body":{"name":"k"}},{"put":"objects/a.json","body":{"name":"k"}}] => none
+[{"put":"events/c.json","body":{"name":"k"}},{"put":"events/a.json","body":{"name":"k"}},{"put":"events/b.json","body":{"name":"k"}}] => key_clash;class:k;events/b.json
+[{"put":"objects/b.json","body":{"name":"k"}},{"put":"objects/a.json","body":{"name":"k"}}] => key_clash;object:k;objects/b.json
+[{"put":"profiles/a.json","body":{"name":"p"}},{"put":"profiles/b.json","body":{"name":"p"}}] => key_clash;profile:p;profiles/b.json
+[{"put":"extensions/a/extension.json","body":{"name":"e","uid":1}},{"put":"extensions/b/extension.json","body":{"name":"e","uid":2}}] => none
+[{"put":"extensions/a/extension.json","body":{"name":"e","uid":1}},{"put":"extensions/b/extension.json","body":{"name":"e","uid":2}},{"enable":"e"}] => key_clash;extension:e;extensions/b/extension.json
+[{"put":"extensions/a/extension.json","body":{"name":"f","uid":1}},{"put":"extensions/b/extension.json","body":{"name":"e","uid":1}},{"put":"extensions/c/extension.json","body":{"name":"g","uid":1}},{"enable":"e"},{"enable":"f"},{"enable":"g"}] => uid_taken;extension:f;1
+[{"put":"extensions/a/extension.json","body":{"name":"f","uid":1}},{"put":"extensions/b/extension.json","body":{"name":"e","uid":1}},{"enable":"f"}] => none
+[{"put":"categories.json","body":{"attributes":{"a":{"uid":7},"b":{"uid":8}}}}] => none
+[{"put":"categories.json","body":{"attributes":{"c":{"uid":7},"b":{"uid":7},"a":{"uid":7}}}}] => uid_taken;category:b;7
+[{"put":"categories.json","body":{"attributes":{"zero":{"uid":0}}}}] => uid_taken;category:zero;0
+[{"put":"categories.json","body":{"attributes":{"a":{"uid":0}}}}] => uid_taken;category:other;0
+[{"put":"categories.json","body":{"attributes":{"a":{"uid":0},"zero":{"uid":0}}}}] => uid_taken;category:other;0
+[{"put":"categories.json","body":{"attributes":{"other":{"uid":3},"zero":{"uid":0}}}}] => none
+[{"put":"categories.json","body":{"attributes":{"b":{"uid":3},"other":{"uid":3}}}}] => uid_taken;category:other;3
+[{"put":"categories.json","body":{"attributes":{"other":{"uid":0}}}}] => none"#;
+
+// Two extensions that are enabled, `e` of the greater uid.
+const EXTENSIONS: &str =
+    r#"[{"put":"extensions/e/extension.json","body":{"name":"e","uid":9}},{"put":"extensions/f/extension.json","body":{"name":"f","uid":2}},{"enable":"e"},{"enable":"f"}]"#;
+
+// Numbers of categories start with the uid of their extension, so that those of extensions of one uid meet.
+const BESIDE: &str = r#"[] => none
+[{"put":"extensions/e/events/k.json","body":{"name":"k"}},{"put":"events/k.json","body":{"name":"k"}}] => none
+[{"put":"extensions/e/events/a.json","body":{"name":"k"}},{"put":"extensions/e/events/b.json","body":{"name":"k"}}] => key_clash;class:e/k;extensions/e/events/b.json
+[{"put":"extensions/e/categories.json","body":{"attributes":{"a":{"uid":0},"b":{"uid":1}}}},{"put":"categories.json","body":{"attributes":{"a":{"uid":1},"b":{"uid":9}}}}] => none
+[{"put":"extensions/e/categories.json","body":{"attributes":{"c":{"uid":1}}}},{"put":"extensions/f/categories.json","body":{"attributes":{"a":{"uid":1}}}}] => none
+[{"put":"extensions/e/extension.json","body":{"name":"e","uid":2}}] => uid_taken;extension:f;2
+[{"put":"extensions/e/extension.json","body":{"name":"e","uid":2}},{"put":"extensions/e/categories.json","body":{"attributes":{"c":{"uid":1}}}},{"put":"extensions/f/categories.json","body":{"attributes":{"a":{"uid":1}}}}] => uid_taken;category:f/a;201
+[{"put":"extensions/e/objects/p.json","body":{"extends":"file"}}] => patch_target;extensions/e/objects/p.json;file
+[{"put":"extensions/e/objects/p.json","body":{"extends":"file"}},{"put":"objects/a.json","body":{"name":"file"}}] => none
+[{"put":"extensions/e/objects/p.json","body":{"extends":"file"}},{"put":"objects/a.json","body":{"name":"file"}},{"disable":"e"},{"remove":"objects/a.json"}] => none
+[{"put":"extensions/e/objects/p.json","body":{"extends":"file"}},{"put":"events/a.json","body":{"name":"file"}}] => patch_target;extensions/e/objects/p.json;file
+[{"put":"extensions/e/objects/p.json","body":{"extends":"file"}},{"put":"extensions/e/objects/a.json","body":{"name":"file"}}] => patch_target;extensions/e/objects/p.json;file
+[{"put":"extensions/e/events/p.json","body":{"extends":"file","name":"file"}},{"put":"extensions/f/events/p.json","body":{"extends":"file"}}] => patch_target;extensions/e/events/p.json;file
+[{"put":"extensions/e/objects/p.json","body":{"extends":"file","name":"own"}}] => none
+[{"put":"extensions/off/objects/p.json","body":{"extends":"file"}}] => none
+[{"put":"extensions/f/objects/x.json","body":{"name":"x"}},{"put":"extensions/e/objects/p.json","body":{"extends":"f/x"}}] => patch_target;extensions/e/objects/p.json;f/x
+[{"put":"extensions/f/objects/x.json","body":{"name":"x"}},{"put":"extensions/e/objects/p.json","body":{"extends":"f/x","name":"y"}}] => none"#;
+
+// A patch and what it patches.
+const PATCH: &str =
+    r#"[{"put":"extensions/e/extension.json","body":{"name":"e","uid":9}},{"put":"extensions/e/objects/p.json","body":{"extends":"file"}},{"put":"objects/file.json","body":{"name":"file"}},{"enable":"e"}]"#;
+
+const PATCHED: &str = r#"[] => none
+[{"remove":"objects/file.json"}] => patch_target;extensions/e/objects/p.json;file
+[{"remove":"objects/file.json"},{"disable":"e"}] => none
+[{"remove":"objects/file.json"},{"put":"objects/a/b.json","body":{"name":"file"}}] => none
+[{"put":"objects/file.json","body":{"name":"file2"}}] => patch_target;extensions/e/objects/p.json;file"#;
 
 #[test]
-fn finds_patches_of_nothing(rt: HostRuntime) -> Result<(), Fail> {
-    let rows: [(&str, &str); 9] = [
-        (
-            r#"{"put":"extensions/e/objects/p.json","body":{"extends":"file"}}"#,
-            "patch_target extensions/e/objects/p.json file",
-        ),
-        (
-            r#"{"put":"extensions/e/objects/p.json","body":{"extends":"file"}},{"put":"objects/a.json","body":{"name":"file"}}"#,
-            "none",
-        ),
-        (
-            r#"{"put":"extensions/e/objects/p.json","body":{"extends":"file"}},{"put":"events/a.json","body":{"name":"file"}}"#,
-            "patch_target extensions/e/objects/p.json file",
-        ),
-        (
-            r#"{"put":"extensions/e/objects/p.json","body":{"extends":"file"}},{"put":"extensions/e/objects/a.json","body":{"name":"file"}}"#,
-            "patch_target extensions/e/objects/p.json file",
-        ),
-        (
-            r#"{"put":"extensions/e/events/p.json","body":{"extends":"file","name":"file"}},{"put":"extensions/f/events/p.json","body":{"extends":"file"}}"#,
-            "patch_target extensions/e/events/p.json file",
-        ),
-        (
-            r#"{"put":"extensions/e/objects/p.json","body":{"extends":"file","name":"own"}}"#,
-            "none",
-        ),
-        (
-            r#"{"put":"extensions/off/objects/p.json","body":{"extends":"file"}}"#,
-            "none",
-        ),
-        (
-            r#"{"put":"extensions/f/objects/x.json","body":{"name":"x"}},{"put":"extensions/e/objects/p.json","body":{"extends":"f/x"}}"#,
-            "patch_target extensions/e/objects/p.json f/x",
-        ),
-        (
-            r#"{"put":"extensions/f/objects/x.json","body":{"name":"x"}},{"put":"extensions/e/objects/p.json","body":{"extends":"f/x","name":"y"}}"#,
-            "none",
-        ),
-    ];
-    for (changes, want) in rows {
-        assert_eq!(rt;
-            beside_extensions(&rt, changes)?.as_str(),
-            want,
-            "at {changes}"
-        );
-    }
-    Ok(())
-}
-
-// The changes that make these the types of core, of `e` and of `f`.
-fn with_types(rt: &HostRuntime, core: &str, e: &str, f: &str) -> Result<String, Fail> {
-    beside_extensions(
-        rt,
-        &format!(in rt.alloc();
-            r#"{{"put":"dictionary.json","body":{{"types":{{"attributes":{{{core}}}}}}}}},
-{{"put":"extensions/e/dictionary.json","body":{{"types":{{"attributes":{{{e}}}}}}}}},
-{{"put":"extensions/f/dictionary.json","body":{{"types":{{"attributes":{{{f}}}}}}}}}"#
-        )?,
-    )
-}
-
-#[test]
-fn finds_types_without_a_base(rt: HostRuntime) -> Result<(), Fail> {
-    let rows: [(&str, &str, &str, &str); 12] = [
-        (r#""t":{"type":"string_t"}"#, "", "", "none"),
-        (r#""t":{"type":"nope"}"#, "", "", "type_unknown type:t nope"),
-        (r#""t":{"caption":"T"}"#, "", "", "type_unknown type:t "),
-        (
-            r#""t":{"type":"u"},"u":{"type":"v"}"#,
-            "",
-            "",
-            "type_unknown type:t v",
-        ),
-        (r#""t":{"type":"t"}"#, "", "", "type_cycle type:t "),
-        (
-            r#""a":{"type":"b"},"b":{"type":"a"},"c":{"type":"nope"}"#,
-            "",
-            "",
-            "type_unknown type:c nope",
-        ),
-        (r#""string_t":{"type":"nope"}"#, "", "", "none"),
-        (
-            r#""t":{"type":"u"}"#,
-            r#""u":{"type":"long_t"}"#,
-            "",
-            "none",
-        ),
-        // The last layer that names a type decides: layers go by the uid, and that of `e` is the greater.
-        (
-            r#""t":{"type":"string_t"}"#,
-            r#""t":{"type":"nope"}"#,
-            r#""t":{"type":"json_t"}"#,
-            "type_unknown type:t nope",
-        ),
-        (
-            r#""t":{"type":"nope"}"#,
-            r#""t":{"type":"long_t"}"#,
-            r#""t":{"type":"nope"}"#,
-            "none",
-        ),
-        (
-            r#""t":{"type":"nope"}"#,
-            r#""t":{"caption":"T"}"#,
-            r#""t":{"type":"long_t"}"#,
-            "none",
-        ),
-        ("", "", r#""t":{"type":"nope"}"#, "type_unknown type:t nope"),
-    ];
-    for (core, e, f, want) in rows {
-        assert_eq!(rt;
-            with_types(&rt, core, e, f)?.as_str(),
-            want,
-            "at {core} {e} {f}"
-        );
-    }
-    Ok(())
-}
-
-// A chain of so many types that narrow each other in turn, the last one this type.
-fn chain(rt: &HostRuntime, length: u32, last: &str) -> Result<String, Fail> {
+fn finds_faults_of_files(rt: HostRuntime) -> Result<(), Fail> {
     let alloc = rt.alloc();
-    let mut types = String::new(alloc);
-    for k in 1..length {
-        let next = k + 1;
-        types.push_str(&format!(in alloc; r#""t{k:02}":{{"type":"t{next:02}"}},"#)?)?;
-    }
-    types.push_str(&format!(in alloc; r#""t{length:02}":{{"type":"{last}"}}"#)?)?;
-    with_types(rt, &types, "", "")
+    check(&rt, alloc, "[]", ALONE)?;
+    check(&rt, alloc, EXTENSIONS, BESIDE)?;
+    check(&rt, alloc, PATCH, PATCHED)
 }
 
-#[test]
-fn follows_types_for_32_moves(rt: HostRuntime) -> Result<(), Fail> {
-    let rows: [(u32, &str, &str); 6] = [
-        (32, "string_t", "none"),
-        (33, "string_t", "type_cycle type:t01 "),
-        (34, "string_t", "type_cycle type:t01 "),
-        (32, "nope", "type_unknown type:t01 nope"),
-        (33, "nope", "type_unknown type:t02 nope"),
-        (40, "t01", "type_cycle type:t01 "),
-    ];
-    for (length, last, want) in rows {
-        assert_eq!(rt;
-            chain(&rt, length, last)?.as_str(),
-            want,
-            "at {length} {last}"
-        );
-    }
-    Ok(())
+// The last layer that gives the field decides, and the layers go by the uid. Types are looked at last.
+const TYPES: &str =
+    r#"[{"put":"dictionary.json","body":{"types":{"attributes":{"t":{"type":"string_t"}}}}}] => none
+[{"put":"dictionary.json","body":{"types":{"attributes":{"t":{"type":"nope"}}}}}] => type_unknown;type:t;nope
+[{"put":"dictionary.json","body":{"types":{"attributes":{"t":{"caption":"T"}}}}}] => type_unknown;type:t;
+[{"put":"dictionary.json","body":{"types":{"attributes":{"t":{"type":"u"},"u":{"type":"v"}}}}}] => type_unknown;type:t;v
+[{"put":"dictionary.json","body":{"types":{"attributes":{"t":{"type":"t"}}}}}] => type_cycle;type:t;
+[{"put":"dictionary.json","body":{"types":{"attributes":{"a":{"type":"b"},"b":{"type":"a"},"c":{"type":"nope"}}}}}] => type_unknown;type:c;nope
+[{"put":"dictionary.json","body":{"types":{"attributes":{"string_t":{"type":"nope"}}}}}] => none
+[{"put":"dictionary.json","body":{"types":{"attributes":{"t":{"type":"u"}}}}},{"put":"extensions/e/dictionary.json","body":{"types":{"attributes":{"u":{"type":"long_t"}}}}}] => none
+[{"put":"dictionary.json","body":{"types":{"attributes":{"t":{"type":"string_t"}}}}},{"put":"extensions/e/dictionary.json","body":{"types":{"attributes":{"t":{"type":"nope"}}}}},{"put":"extensions/f/dictionary.json","body":{"types":{"attributes":{"t":{"type":"json_t"}}}}}] => type_unknown;type:t;nope
+[{"put":"dictionary.json","body":{"types":{"attributes":{"t":{"type":"nope"}}}}},{"put":"extensions/e/dictionary.json","body":{"types":{"attributes":{"t":{"type":"long_t"}}}}},{"put":"extensions/f/dictionary.json","body":{"types":{"attributes":{"t":{"type":"nope"}}}}}] => none
+[{"put":"dictionary.json","body":{"types":{"attributes":{"t":{"type":"nope"}}}}},{"put":"extensions/e/dictionary.json","body":{"types":{"attributes":{"t":{"caption":"T"}}}}},{"put":"extensions/f/dictionary.json","body":{"types":{"attributes":{"t":{"type":"long_t"}}}}}] => none
+[{"put":"extensions/f/dictionary.json","body":{"types":{"attributes":{"t":{"type":"nope"}}}}}] => type_unknown;type:t;nope
+[{"put":"extensions/off/dictionary.json","body":{"types":{"attributes":{"t":{"type":"nope"}}}}}] => none
+[{"put":"dictionary.json","body":{"types":{"attributes":{"t":{"type":"nope"}}}}},{"enable":"x"}] => extension_unknown;x;
+[{"put":"dictionary.json","body":{"types":{"attributes":{"t":{"type":"nope"}}}}},{"put":"extensions/e/objects/p.json","body":{"extends":"file"}}] => patch_target;extensions/e/objects/p.json;file
+[{"put":"dictionary.json","body":{"types":{"attributes":{"t":{"type":"nope"}}}}},{"put":"extensions/e/objects/p.json","body":{"extends":"file"}},{"put":"categories.json","body":{"attributes":{"zero":{"uid":0}}}}] => uid_taken;category:zero;0"#;
+
+const CHAIN: [&str; 3] = [
+    r#"[{"put":"extensions/e/extension.json","body":{"name":"e","uid":9}},{"enable":"e"},{"put":"dictionary.json","body":{"types":{"attributes":{"#,
+    r#""t#":{"type":"t+"},"#,
+    r#""x":{"type":"string_t"}}}}}]"#,
+];
+
+// On a chain of 31 moves from `t10` to `t41`.
+const CHAINED: &str = r#"[] => type_unknown;type:t10;t41
+[{"put":"extensions/e/dictionary.json","body":{"types":{"attributes":{"t41":{"type":"string_t"}}}}}] => none
+[{"put":"extensions/e/dictionary.json","body":{"types":{"attributes":{"t41":{"type":"nope"}}}}}] => type_unknown;type:t10;nope
+[{"put":"extensions/e/dictionary.json","body":{"types":{"attributes":{"t41":{"type":"t42"},"t42":{"type":"string_t"}}}}}] => type_cycle;type:t10;
+[{"put":"extensions/e/dictionary.json","body":{"types":{"attributes":{"t41":{"type":"t42"},"t42":{"type":"t43"},"t43":{"type":"long_t"}}}}}] => type_cycle;type:t10;
+[{"put":"extensions/e/dictionary.json","body":{"types":{"attributes":{"t41":{"type":"t42"},"t42":{"type":"nope"}}}}}] => type_unknown;type:t11;nope
+[{"put":"extensions/e/dictionary.json","body":{"types":{"attributes":{"t41":{"type":"t10"}}}}}] => type_cycle;type:t10;"#;
+
+fn push_number(text: &mut String, number: u32) -> Result<(), AllocError> {
+    let digits = format!(in *text.allocator(); "{number}")?;
+    text.push_str(&digits)
 }
 
-// So many objects, and so many enabled extensions, each with its file or without.
-fn crowd(rt: &HostRuntime, objects: u32, enabled: u32, has_files: bool) -> Result<String, Fail> {
-    let alloc = rt.alloc();
-    let mut text = String::from_str(alloc, "[")?;
-    for k in 0..objects {
-        text.push_str(&format!(in alloc;
-            r#"{{"put":"objects/o{k}.json","body":{{"name":"o{k}"}}}},"#
-        )?)?;
-    }
-    for k in 100..100 + enabled {
-        if has_files {
-            text.push_str(&format!(in alloc;
-                r#"{{"put":"extensions/e{k}/extension.json","body":{{"name":"e{k}","uid":{k}}}}},"#
-            )?)?;
+// The template, with the number in place of `#` and the next one of `+`.
+fn push_numbered(text: &mut String, template: &str, number: u32) -> Result<(), AllocError> {
+    for letter in template.chars() {
+        match letter {
+            '#' => push_number(text, number)?,
+            '+' => push_number(text, number.wrapping_add(1))?,
+            _ => text.push(letter)?,
         }
-        text.push_str(&format!(in alloc; r#"{{"enable":"e{k}"}},"#)?)?;
     }
-    text.push_str(r#"{"disable":"none"}]"#)?;
-    fault_of(rt, &text)
+    Ok(())
 }
+
+// An edit that holds the middle part for each number from 10 up to there.
+fn many(alloc: Global, parts: [&str; 3], to: u32) -> Result<String, AllocError> {
+    let [front, template, back] = parts;
+    let mut text = String::from_str(alloc, front)?;
+    for number in 10..to {
+        push_numbered(&mut text, template, number)?;
+    }
+    text.push_str(back)?;
+    Ok(text)
+}
+
+#[test]
+fn finds_faults_of_types(rt: HostRuntime) -> Result<(), Fail> {
+    let alloc = rt.alloc();
+    check(&rt, alloc, EXTENSIONS, TYPES)?;
+    check(&rt, alloc, &many(alloc, CHAIN, 41)?, CHAINED)
+}
+
+const OBJECTS: [&str; 3] = [
+    "[",
+    r#"{"put":"objects/o#.json","body":{"name":"o#"}},"#,
+    r#"{"disable":"none"}]"#,
+];
+
+// On 4,096 objects from `o10`.
+const OF_OBJECTS: &str = r#"[] => none
+[{"put":"objects/o1.json","body":{"name":"o10"}}] => too_many;bundle;files
+[{"put":"extensions/off/objects/o1.json","body":{"name":"o1"}}] => too_many;bundle;files"#;
+
+const ENABLED: [&str; 3] = [
+    "[",
+    r#"{"put":"extensions/e#/extension.json","body":{"name":"e#","uid":#}},{"enable":"e#"},"#,
+    r#"{"disable":"none"}]"#,
+];
+
+// On 64 extensions from `e10`.
+const OF_EXTENSIONS: &str = r#"[] => none
+[{"put":"extensions/x/extension.json","body":{"name":"x","uid":9}},{"enable":"x"}] => too_many;bundle;extensions
+[{"put":"extensions/x/extension.json","body":{"name":"x","uid":9}}] => none
+[{"enable":"x"}] => too_many;bundle;extensions
+[{"enable":"x"},{"disable":"e10"}] => extension_unknown;x;
+[{"remove":"extensions/e10/extension.json"}] => extension_unknown;e10;"#;
 
 #[test]
 fn counts_files_and_extensions(rt: HostRuntime) -> Result<(), Fail> {
-    let rows: [(u32, u32, bool, &str); 7] = [
-        (4096, 0, false, "none"),
-        (4097, 0, false, "too_many bundle files"),
-        (0, 64, true, "none"),
-        (0, 64, false, "extension_unknown e100 "),
-        (0, 65, true, "too_many bundle extensions"),
-        (0, 65, false, "too_many bundle extensions"),
-        (4097, 65, false, "too_many bundle extensions"),
-    ];
-    for (objects, enabled, has_files, want) in rows {
-        assert_eq!(rt;
-            crowd(&rt, objects, enabled, has_files)?.as_str(),
-            want,
-            "at {objects} {enabled}"
-        );
-    }
-    Ok(())
-}
-
-#[test]
-fn looks_at_types_last(rt: HostRuntime) -> Result<(), Fail> {
-    let types =
-        r#"{"put":"dictionary.json","body":{"types":{"attributes":{"t":{"type":"nope"}}}}}"#;
-    let rows: [(&str, &str); 4] = [
-        ("", "type_unknown type:t nope"),
-        (r#",{"enable":"x"}"#, "extension_unknown x "),
-        (
-            r#",{"put":"extensions/e/objects/p.json","body":{"extends":"file"}}"#,
-            "patch_target extensions/e/objects/p.json file",
-        ),
-        (
-            r#",{"put":"categories.json","body":{"attributes":{"zero":{"uid":0}}}},{"put":"extensions/e/objects/p.json","body":{"extends":"file"}}"#,
-            "uid_taken category:zero 0",
-        ),
-    ];
-    for (more, want) in rows {
-        let changes = format!(in rt.alloc(); "{types}{more}")?;
-        assert_eq!(rt;
-            beside_extensions(&rt, &changes)?.as_str(),
-            want,
-            "at {more}"
-        );
-    }
-    Ok(())
+    let alloc = rt.alloc();
+    check(&rt, alloc, &many(alloc, OBJECTS, 4106)?, OF_OBJECTS)?;
+    check(&rt, alloc, &many(alloc, ENABLED, 74)?, OF_EXTENSIONS)
 }

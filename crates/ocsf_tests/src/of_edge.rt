@@ -6,6 +6,7 @@ use ocsf_edge::{
 use std::alloc::{AllocError, Global};
 use std::io::Read;
 use std::os::unix::fs::symlink;
+use std::process::Abort;
 use std::test::Fail;
 use std::{fs, io};
 
@@ -13,35 +14,48 @@ fn numbers(alloc: Global, values: &[u64]) -> Result<Seq<u64>, AllocError> {
     Ok(Seq::from(values.to_vec(alloc)?))
 }
 
+// A call moves so many bytes, or fails where there is none.
+fn check_moves(rt: &impl Abort, source: &mut impl Source, moves: &[Option<usize>]) {
+    let mut buffer = [0u8; 4];
+    for moved in moves {
+        assert_eq!(rt; source.read(&mut buffer).ok(), *moved);
+    }
+}
+
 // Sizes 2 and 0, and then no bound; the call that fails moves no size on.
 #[test]
 fn sources_move_pieces(rt: HostRuntime) -> Result<(), Fail> {
     let alloc = rt.alloc();
-    let sizes = numbers(alloc, &[2, 0])?;
-    let failing = numbers(alloc, &[2])?;
-    let mut source = MemorySource::new(Bytes::of(alloc, b"abcdef")?, sizes, failing);
-    let mut sure = SureSource::new(Bytes::of(alloc, b"abcdef")?, numbers(alloc, &[2, 0])?);
-    let mut buffer = [0u8; 4];
-    for (call, moved) in [Some(2), None, Some(1), Some(3), Some(0)]
-        .into_iter()
-        .enumerate()
-    {
-        assert_eq!(rt; source.read(&mut buffer).ok(), moved, "call {call}");
-        if moved.is_some() {
-            assert_eq!(rt; sure.read(&mut buffer).ok(), moved, "call {call}");
-        }
-    }
+    let bytes = Bytes::of(alloc, b"abcdef")?;
+    let mut source = MemorySource::new(bytes, numbers(alloc, &[2, 0])?, numbers(alloc, &[2])?);
+    check_moves(
+        &rt,
+        &mut source,
+        &[Some(2), None, Some(1), Some(3), Some(0)],
+    );
     Ok(())
 }
 
 #[test]
-fn sinks_keep_bytes(rt: HostRuntime) -> Result<(), Fail> {
+fn sure_sources_move_pieces(rt: HostRuntime) -> Result<(), Fail> {
     let alloc = rt.alloc();
-    let mut sink = MemorySink::new(alloc, numbers(alloc, &[2])?);
-    assert_eq!(rt; sink.write(b"ab").ok(), Some(2));
-    assert_eq!(rt; sink.write(b"cd").ok(), None);
-    assert_eq!(rt; write_both(&mut sink, b"ef", b"gh").ok(), Some(()));
-    assert_eq!(rt; sink.written(), b"abefgh".as_slice());
+    let bytes = Bytes::of(alloc, b"abcdef")?;
+    let mut source = SureSource::new(bytes, numbers(alloc, &[2, 0])?);
+    check_moves(&rt, &mut source, &[Some(2), Some(1), Some(3), Some(0)]);
+    Ok(())
+}
+
+fn keeps_bytes(sink: &mut MemorySink) -> bool {
+    sink.write(b"ab").ok() == Some(2)
+        && sink.write(b"cd").is_err()
+        && write_both(sink, b"ef", b"gh").is_ok()
+        && sink.written() == b"abefgh".as_slice()
+}
+
+#[test]
+fn sinks_keep_bytes(rt: HostRuntime) -> Result<(), Fail> {
+    let mut sink = MemorySink::new(rt.alloc(), numbers(rt.alloc(), &[2])?);
+    assert!(rt; keeps_bytes(&mut sink));
     assert_eq!(rt; SureSink::new().write(b"ab").ok(), Some(2));
     Ok(())
 }
@@ -64,114 +78,155 @@ impl Read for Broken {
 }
 
 #[test]
-fn std_readers_and_writers(rt: HostRuntime) -> Result<(), Fail> {
-    let alloc = rt.alloc();
-    let mut buffer = [0u8; 4];
+fn std_readers(rt: HostRuntime) {
     let mut source = StdSource::new(b"abcdef".as_slice());
-    for moved in [4, 2, 0] {
-        assert_eq!(rt; source.read(&mut buffer).ok(), Some(moved));
-    }
+    check_moves(&rt, &mut source, &[Some(4), Some(2), Some(0)]);
     let mut broken = StdSource::new(Broken { given: false });
-    assert_eq!(rt; broken.read(&mut buffer).ok(), Some(1));
-    assert_eq!(rt; broken.read(&mut buffer).ok(), None);
-    assert_eq!(rt;
-        write_all(&mut StdSink::new(Vec::new(alloc)), b"abc").ok(),
-        Some(())
-    );
-
-    // A full slice takes nothing, which is a fault of the writer unless nothing was to be written.
-    let mut full = StdSink::new(buffer.as_mut_slice());
-    assert_eq!(rt; write_all(&mut full, b"abcd").ok(), Some(()));
-    assert_eq!(rt; full.write(b"").ok(), Some(0));
-    assert_eq!(rt; full.write(b"e").ok(), None);
-    Ok(())
+    check_moves(&rt, &mut broken, &[Some(1), None]);
 }
 
-fn file(alloc: Global, path: &[u8], body: &[u8]) -> Result<KeptFile, AllocError> {
-    Ok(KeptFile {
-        path: Bytes::of(alloc, path)?,
-        body: Bytes::of(alloc, body)?,
-    })
+// A full slice takes nothing, which is a fault of the writer unless nothing was to be written.
+fn fills(buffer: &mut [u8]) -> bool {
+    let mut sink = StdSink::new(buffer);
+    write_all(&mut sink, b"abcd").is_ok()
+        && sink.write(b"").ok() == Some(0)
+        && sink.write(b"e").is_err()
 }
 
-fn put(alloc: Global, moves: &mut Seq<Move>, path: &[u8], body: &[u8]) -> Result<(), AllocError> {
-    moves.push(Move::Put(file(alloc, path, body)?))
+#[test]
+fn std_writers(rt: HostRuntime) {
+    let mut sink = StdSink::new(Vec::new(rt.alloc()));
+    assert!(rt; write_all(&mut sink, b"abc").is_ok());
+    let mut buffer = [0u8; 4];
+    assert!(rt; fills(buffer.as_mut_slice()));
 }
 
-// Files and names after puts of which one replaces, enabling twice, and taking away what isn't there.
+fn halves(row: &str) -> (&str, &str) {
+    row.split_once(' ').unwrap_or_default()
+}
+
+// `enable`, `disable` and `remove` with a name, or `put` with a path and a body
+fn move_of(alloc: Global, row: &str) -> Result<Move, AllocError> {
+    let (kind, rest) = halves(row);
+    let (path, body) = halves(rest);
+    match kind {
+        "enable" => Ok(Move::Enable(Bytes::of(alloc, rest.as_bytes())?)),
+        "disable" => Ok(Move::Disable(Bytes::of(alloc, rest.as_bytes())?)),
+        "remove" => Ok(Move::Remove(Bytes::of(alloc, rest.as_bytes())?)),
+        _ => {
+            let path = Bytes::of(alloc, path.as_bytes())?;
+            let body = Bytes::of(alloc, body.as_bytes())?;
+            Ok(Move::Put(KeptFile { path, body }))
+        }
+    }
+}
+
+// Puts of which one replaces, enabling twice, and taking away what isn't there
+const MOVES: &str = "put d/b 1
+put d/a 2
+put d/b 34
+put dd/c 5
+remove d/x
+enable w
+enable w
+disable v";
+
+fn moves(alloc: Global) -> Result<Seq<Move>, AllocError> {
+    let mut moves = Seq::new(alloc);
+    for row in MOVES.lines() {
+        moves.push(move_of(alloc, row)?)?;
+    }
+    Ok(moves)
+}
+
 fn stored(alloc: Global) -> Result<SureKeeper, Fail> {
+    let moves = moves(alloc)?;
     let mut keeper = SureKeeper::new(Kept {
         files: Seq::new(alloc),
         enabled: Seq::new(alloc),
         revision: 0,
     });
-    let mut moves = Seq::new(alloc);
-    put(alloc, &mut moves, b"d/b", b"1")?;
-    put(alloc, &mut moves, b"d/a", b"2")?;
-    put(alloc, &mut moves, b"d/b", b"34")?;
-    put(alloc, &mut moves, b"dd/c", b"5")?;
-    moves.push(Move::Remove(Bytes::of(alloc, b"d/x")?))?;
-    moves.push(Move::Enable(Bytes::of(alloc, b"w")?))?;
-    moves.push(Move::Enable(Bytes::of(alloc, b"w")?))?;
-    moves.push(Move::Disable(Bytes::of(alloc, b"v")?))?;
     keeper.commit(moves.as_slice(), 7)?;
     Ok(keeper)
 }
 
+fn is_file(file: &KeptFile, path: &str, body: &str) -> bool {
+    file.path.as_slice() == path.as_bytes() && file.body.as_slice() == body.as_bytes()
+}
+
+fn is_kept(kept: &Kept) -> bool {
+    let [first, second, third] = kept.files.as_slice() else {
+        return false;
+    };
+    let [word] = kept.enabled.as_slice() else {
+        return false;
+    };
+    is_file(first, "d/a", "2")
+        && is_file(second, "d/b", "34")
+        && is_file(third, "dd/c", "5")
+        && word.as_slice() == b"w".as_slice()
+}
+
 #[test]
 fn keepers_commit_moves(rt: HostRuntime) -> Result<(), Fail> {
-    let alloc = rt.alloc();
     let mut keeper = stored(rt.alloc())?;
     assert_eq!(rt; keeper.kept().revision, 7);
     let kept = keeper.load()?;
-    let files = kept.files.as_slice();
-    for (at, path, body) in [(0, "d/a", "2"), (1, "d/b", "34"), (2, "dd/c", "5")] {
-        let found = files.get(at).ok_or("no file")?;
-        assert_eq!(rt; found.path.as_slice(), path.as_bytes());
-        assert_eq!(rt; found.body.as_slice(), body.as_bytes());
-    }
-    assert_eq!(rt; files.len(), 3);
-    assert_eq!(rt;
-        kept.enabled.as_slice(),
-        [Bytes::of(alloc, b"w")?].as_slice()
-    );
+    assert!(rt; is_kept(&kept));
     Ok(())
+}
+
+fn lists(folder: &mut impl Folder, base: &str, paths: &str) -> bool {
+    let Ok(found) = folder.list(base) else {
+        return false;
+    };
+    let mut words = paths.split(' ');
+    for path in found.as_slice() {
+        if words.next().unwrap_or_default().as_bytes() != path.as_slice() {
+            return false;
+        }
+    }
+    words.next().is_none()
+}
+
+fn reads(folder: &mut impl Folder, path: (&str, &[u8]), most: usize, body: &str) -> bool {
+    match folder.read_file(path.0, path.1, most) {
+        Ok(read) => read.as_slice() == body.as_bytes(),
+        Err(_) => false,
+    }
+}
+
+fn is_sure(folder: &mut SureFolder) -> bool {
+    lists(folder, "d", "a b")
+        && reads(folder, ("d", b"b"), 9, "34")
+        && reads(folder, ("d", b"b"), 1, "3")
+        && reads(folder, ("d", b"x"), 9, "")
 }
 
 #[test]
 fn folders_list_and_read(rt: HostRuntime) -> Result<(), Fail> {
     let mut keeper = stored(rt.alloc())?;
     let mut folder = SureFolder::new(keeper.load()?.files);
-    let paths = folder.list("d")?;
-    for (at, path) in [(0, "a"), (1, "b")] {
-        assert_eq!(rt;
-            paths.as_slice().get(at).map(|p| p.as_slice()),
-            Some(path.as_bytes())
-        );
-    }
-    assert_eq!(rt; paths.as_slice().len(), 2);
-    for (path, most, body) in [("b", 9, "34"), ("b", 1, "3"), ("x", 9, "")] {
-        let read = folder.read_file("d", path.as_bytes(), most)?;
-        assert_eq!(rt; read.as_slice(), body.as_bytes(), "{path}");
-    }
+    assert!(rt; is_sure(&mut folder));
     Ok(())
 }
 
 // The second and the fourth call fail, and each that reads where no file is.
+fn fails(folder: &mut MemoryFolder) -> bool {
+    lists(folder, "d", "a b")
+        && folder.list("d").is_err()
+        && reads(folder, ("d", b"b"), 9, "34")
+        && folder.read_file("d", b"b", 9).is_err()
+        && folder.read_file("d", b"x", 9).is_err()
+        && reads(folder, ("d", b"b"), 1, "3")
+}
+
 #[test]
 fn folders_fail(rt: HostRuntime) -> Result<(), Fail> {
     let mut keeper = stored(rt.alloc())?;
     let failing = numbers(rt.alloc(), &[2, 4])?;
     let mut folder = MemoryFolder::new(keeper.load()?.files, failing);
-    assert_eq!(rt; folder.list("d")?.as_slice().len(), 2);
-    assert!(rt; folder.list("d").is_err());
-    assert_eq!(rt;
-        folder.read_file("d", b"b", 9)?.as_slice(),
-        b"34".as_slice()
-    );
-    assert!(rt; folder.read_file("d", b"b", 9).is_err());
-    assert!(rt; folder.read_file("d", b"x", 9).is_err());
-    assert_eq!(rt; folder.read_file("d", b"b", 1)?.as_slice(), b"3".as_slice());
+    assert!(rt; fails(&mut folder));
     Ok(())
 }
 
@@ -188,39 +243,24 @@ fn make_files(rt: &HostRuntime) -> io::Result<()> {
     Ok(())
 }
 
+fn is_of_the_system(folder: &mut impl Folder) -> bool {
+    lists(folder, "dir_folder", "a b.json b/c/y b/x")
+        && reads(folder, ("dir_folder", b"a"), 9, "")
+        && reads(folder, ("dir_folder", b"b.json"), 10, "0123456789")
+        && reads(folder, ("dir_folder", b"b.json"), 4, "0123")
+        && reads(folder, ("dir_folder", b"b/c/y"), 9, "yy")
+        && folder.read_file("dir_folder", b"none", 9).is_err()
+        && folder.read_file("dir_folder", b"b", 9).is_err()
+        && folder.read_file("dir_folder", b"\xff", 9).is_err()
+        && folder.list("dir_folder/none").is_err()
+}
+
 #[test]
 fn folders_of_the_system(rt: HostRuntime) -> Result<(), Fail> {
     let _ = fs::remove_dir_all(&rt, "dir_folder");
     make_files(&rt)?;
     let mut folder = DirFolder::new(&rt);
-    let paths = folder.list("dir_folder")?;
-    for (at, path) in [(0, "a"), (1, "b.json"), (2, "b/c/y"), (3, "b/x")] {
-        assert_eq!(rt;
-            paths.as_slice().get(at).map(|p| p.as_slice()),
-            Some(path.as_bytes())
-        );
-    }
-    assert_eq!(rt; paths.as_slice().len(), 4);
-    assert_eq!(rt;
-        folder.read_file("dir_folder", b"a", 9)?.as_slice(),
-        b"".as_slice()
-    );
-    assert_eq!(rt;
-        folder.read_file("dir_folder", b"b.json", 10)?.as_slice(),
-        b"0123456789".as_slice()
-    );
-    assert_eq!(rt;
-        folder.read_file("dir_folder", b"b.json", 4)?.as_slice(),
-        b"0123".as_slice()
-    );
-    assert_eq!(rt;
-        folder.read_file("dir_folder", b"b/c/y", 9)?.as_slice(),
-        b"yy".as_slice()
-    );
-    assert!(rt; folder.read_file("dir_folder", b"none", 9).is_err());
-    assert!(rt; folder.read_file("dir_folder", b"b", 9).is_err());
-    assert!(rt; folder.read_file("dir_folder", b"\xff", 9).is_err());
-    assert!(rt; folder.list("dir_folder/none").is_err());
+    assert!(rt; is_of_the_system(&mut folder));
     fs::remove_dir_all(&rt, "dir_folder")?;
     Ok(())
 }

@@ -1,93 +1,195 @@
+ghost use Rattle.std.specs.Prelude.{All, IfOk};
 ghost use Rattle.ocsf_bundle.specs.Edits.{IsValidChange};
 
-use ocsf_bundle::{Change, edit_of};
+use ocsf_bundle::{Bundle, Change, Edit, StoredFile, edit_of};
 use ocsf_raw::RawError;
-use ocsf_tree::{Text, print, read};
+use ocsf_tree::{Fault, read};
+use std::alloc::{AllocError, Global};
+use std::process::Abort;
 use std::test::Fail;
 
-// What the change says, in a line.
-fn told(rt: &HostRuntime, change: &Change) -> Result<String, Fail>
-    requires { IsValidChange change.now }
-{
-    let alloc = rt.alloc();
+// What is asked in a row of a table, and what is wanted.
+fn halves(row: &str) -> (&str, &str) {
+    match row.split_once(" => ") {
+        Some(halves) => halves,
+        None => (row, "no answer"),
+    }
+}
+
+fn push_word(line: &mut String, word: &str) -> Result<(), AllocError> {
+    line.push_str(word)?;
+    line.push(';')
+}
+
+fn fault_line(alloc: Global, fault: &Fault) -> Result<String, AllocError> {
+    let mut line = String::from_str(alloc, fault.code.as_str())?;
+    line.push(';')?;
+    push_word(&mut line, fault.subject.as_str())?;
+    line.push_str(fault.name.as_str())?;
+    Ok(line)
+}
+
+fn refusal_line(alloc: Global, error: &RawError) -> Result<String, AllocError> {
+    match error {
+        RawError::Fault(fault) => fault_line(alloc, fault),
+        RawError::Memory => String::from_str(alloc, "memory"),
+    }
+}
+
+// ---- what an edit says
+
+fn kind_of(change: &Change) -> &str {
     match change {
-        Change::Put { path, tree } => {
-            let body = Text::from_string(String::from_utf8(print(alloc, tree)?.into_vec())?);
-            Ok(format!(in alloc; "put {} {}", path.as_str(), body.as_str())?)
-        }
-        Change::Remove { path } => Ok(format!(in alloc; "remove {}", path.as_str())?),
-        Change::Enable { name } => Ok(format!(in alloc; "enable {}", name.as_str())?),
-        Change::Disable { name } => Ok(format!(in alloc; "disable {}", name.as_str())?),
+        Change::Put { .. } => "put ",
+        Change::Remove { .. } => "remove ",
+        Change::Enable { .. } => "enable ",
+        Change::Disable { .. } => "disable ",
+    }
+}
+
+fn name_of(change: &Change) -> &str {
+    match change {
+        Change::Put { path, .. } | Change::Remove { path } => path.as_str(),
+        Change::Enable { name } | Change::Disable { name } => name.as_str(),
+    }
+}
+
+fn edit_line(alloc: Global, changes: &[Change]) -> Result<String, AllocError> {
+    let mut line = String::from_str(alloc, "ok;")?;
+    for change in changes {
+        line.push_str(kind_of(change))?;
+        push_word(&mut line, name_of(change))?;
+    }
+    Ok(line)
+}
+
+fn outcome_line(alloc: Global, outcome: &Result<Edit, RawError>) -> Result<String, AllocError> {
+    match outcome {
+        Ok(edit) => edit_line(alloc, edit.changes.as_slice()),
+        Err(error) => refusal_line(alloc, error),
     }
 }
 
 // The changes of an edit, or what is wrong with it.
-fn outcome(rt: &HostRuntime, text: &str) -> Result<String, Fail> {
-    let alloc = rt.alloc();
-    match edit_of(alloc, &read(alloc, text.as_bytes())?) {
-        Ok(edit) => {
-            let mut words = String::from_str(alloc, "ok")?;
-            for change in edit.changes.as_slice() {
-                words.push_str("; ")?;
-                words.push_str(&told(rt, change)?)?;
-            }
-            Ok(words)
-        }
-        Err(RawError::Memory) => Ok(String::from_str(alloc, "memory")?),
-        Err(RawError::Fault(fault)) => {
-            Ok(format!(in alloc;
-                "{} {}{}",
-                fault.code.as_str(),
-                fault.subject.as_str(),
-                fault.name.as_str()
-            )?)
-        }
-    }
+fn outcome(alloc: Global, text: &str) -> Result<String, Fail> {
+    let tree = read(alloc, text.as_bytes())?;
+    let line = outcome_line(alloc, &edit_of(alloc, &tree));
+    Ok(line?)
+}
+
+const EDITS: &str = r#"[] => ok;
+{} => shape;; not_a_list
+null => shape;; not_a_list
+[{"remove":"p"}] => ok;remove p;
+[[{"remove":"p"}]] => shape;;/0 not_an_object
+[{"remove":"p"},null] => shape;;/1 not_an_object
+[{}] => shape;;/0 not_one
+[{"body":{}}] => shape;;/0 not_one
+[{"body":{},"put":"p","remove":null}] => shape;;/0 not_one
+[{"disable":5,"enable":5}] => shape;;/0 not_one
+[{"put":"p"}] => shape;;/0/body missing
+[{"put":5}] => shape;;/0/body missing
+[{"body":null,"put":5}] => shape;;/0/put not_a_text
+[{"body":null,"put":"no path"},{"body":{"a":[1]},"put":""}] => ok;put no path;put ;
+[{"remove":null}] => shape;;/0/remove not_a_text
+[{"enable":null}] => shape;;/0/enable not_a_text
+[{"enable":""}] => shape;;/0/enable bad_name
+[{"disable":"e/a"}] => shape;;/0/disable bad_name
+[{"disable":[]}] => shape;;/0/disable not_a_text
+[{"body":5,"enable":"a:b","other":null},{"disable":"a.b"}] => ok;enable a:b;disable a.b;
+[{"remove":"p"},{"disable":""},5] => shape;;/1/disable bad_name
+[{"remove":"p"},{"enable":5},{}] => shape;;/1/enable not_a_text"#;
+
+fn check_edit(rt: &impl Abort, alloc: Global, row: &str) -> Result<(), Fail> {
+    let (text, want) = halves(row);
+    let line = outcome(alloc, text)?;
+    assert_eq!(rt; line.as_str(), want, "at {text}");
+    Ok(())
 }
 
 #[test]
 fn reads_edits(rt: HostRuntime) -> Result<(), Fail> {
-    let rows: [(&str, &str); 22] = [
-        ("[]", "ok"),
-        ("{}", "shape  not_a_list"),
-        ("null", "shape  not_a_list"),
-        ("[{\"remove\":\"p\"}]", "ok; remove p"),
-        ("[[{\"remove\":\"p\"}]]", "shape /0 not_an_object"),
-        ("[{\"remove\":\"p\"},null]", "shape /1 not_an_object"),
-        ("[{}]", "shape /0 not_one"),
-        ("[{\"body\":{}}]", "shape /0 not_one"),
-        (
-            "[{\"body\":{},\"put\":\"p\",\"remove\":null}]",
-            "shape /0 not_one",
-        ),
-        ("[{\"disable\":5,\"enable\":5}]", "shape /0 not_one"),
-        ("[{\"put\":\"p\"}]", "shape /0/body missing"),
-        ("[{\"put\":5}]", "shape /0/body missing"),
-        ("[{\"body\":null,\"put\":5}]", "shape /0/put not_a_text"),
-        (
-            "[{\"body\":null,\"put\":\"no path\"},{\"body\":{\"a\":[1]},\"put\":\"\"}]",
-            "ok; put no path null; put  {\"a\":[1]}",
-        ),
-        ("[{\"remove\":null}]", "shape /0/remove not_a_text"),
-        ("[{\"enable\":null}]", "shape /0/enable not_a_text"),
-        ("[{\"enable\":\"\"}]", "shape /0/enable bad_name"),
-        ("[{\"disable\":\"e/a\"}]", "shape /0/disable bad_name"),
-        ("[{\"disable\":[]}]", "shape /0/disable not_a_text"),
-        (
-            "[{\"body\":5,\"enable\":\"a:b\",\"other\":null},{\"disable\":\"a.b\"}]",
-            "ok; enable a:b; disable a.b",
-        ),
-        (
-            "[{\"remove\":\"p\"},{\"disable\":\"\"},5]",
-            "shape /1/disable bad_name",
-        ),
-        (
-            "[{\"remove\":\"p\"},{\"enable\":5},{}]",
-            "shape /1/enable not_a_text",
-        ),
-    ];
-    for (text, want) in rows {
-        assert_eq!(rt; outcome(&rt, text)?.as_str(), want, "at {text}");
+    for row in EDITS.lines() {
+        check_edit(&rt, rt.alloc(), row)?;
+    }
+    Ok(())
+}
+
+// ---- what comes of it
+
+fn push_file(line: &mut String, file: &StoredFile) -> Result<(), Fail> {
+    push_word(line, file.path.as_str())?;
+    push_word(line, str::from_utf8(file.text.as_slice())?)?;
+    Ok(())
+}
+
+// The paths, texts and enabled names of a bundle, in a line.
+fn bundle_line(alloc: Global, bundle: &Bundle) -> Result<String, Fail> {
+    let mut line = String::from_str(alloc, "files;")?;
+    for file in bundle.files() {
+        push_file(&mut line, file.get())?;
+    }
+    for name in bundle.enabled() {
+        push_word(&mut line, name.as_str())?;
+    }
+    Ok(line)
+}
+
+// Each edit is applied to what the ones before it left.
+const STEPS: &str = r#"[] => files;
+[{"put":"objects/b.json","body":{"name":"b"}},{"put":"objects/a.json","body":{"name":"a"}},{"enable":"y"},{"enable":"x"},{"enable":"y"}] => files;objects/a.json;{"name":"a"};objects/b.json;{"name":"b"};x;y;
+[{"put":"objects/a.json","body":{ "name" : "c" }},{"put":"objects/a.json","body":{"zz":1,"name":"d"}},{"disable":"z"},{"disable":"x"}] => files;objects/a.json;{"name":"d","zz":1};objects/b.json;{"name":"b"};y;
+[{"remove":"objects/q.json"}] => absent;objects/q.json;
+[{"remove":"nowhere"},{"put":"nowhere","body":5}] => absent;nowhere;
+[{"put":"nowhere","body":5},{"remove":"nowhere"}] => path_unknown;nowhere;
+[{"remove":"objects/a.json"},{"remove":"objects/a.json"}] => absent;objects/a.json;
+[{"put":"objects/c.json","body":[]},{"put":"nowhere","body":5}] => shape;objects/c.json; not_an_object
+[{"put":"objects/c.json","body":{}}] => shape;objects/c.json;/name missing
+[{"remove":"objects/a.json"},{"put":"objects/a.json","body":{"name":"e"}},{"remove":"objects/b.json"}] => files;objects/a.json;{"name":"e"};y;
+[{"put":"objects/c.json","body":{"name":"c"}},{"remove":"objects/c.json"},{"disable":"y"},{"enable":"y"}] => files;objects/a.json;{"name":"e"};y;
+[{"remove":"objects/a.json"},{"disable":"y"}] => files;"#;
+
+fn edit_in(alloc: Global, text: &str) -> Result<Edit, Fail>
+    ensures { IfOk result (λ edit. All IsValidChange edit.changes) }
+{
+    let tree = read(alloc, text.as_bytes())?;
+    let edit = edit_of(alloc, &tree)?;
+    Ok(edit)
+}
+
+fn kept(
+    alloc: Global,
+    bundle: &mut Bundle,
+    outcome: Result<Bundle, RawError>,
+) -> Result<String, Fail> {
+    match outcome {
+        Ok(made) => {
+            *bundle = made;
+            bundle_line(alloc, bundle)
+        }
+        Err(error) => Ok(refusal_line(alloc, &error)?),
+    }
+}
+
+// Applies the edit where it has no fault, and tells what then there is.
+fn step(alloc: Global, bundle: &mut Bundle, text: &str) -> Result<String, Fail> {
+    let edit = edit_in(alloc, text)?;
+    let outcome = bundle.after(&edit);
+    kept(alloc, bundle, outcome)
+}
+
+fn check_step(rt: &impl Abort, alloc: Global, bundle: &mut Bundle, row: &str) -> Result<(), Fail> {
+    let (text, want) = halves(row);
+    let line = step(alloc, bundle, text)?;
+    assert_eq!(rt; line.as_str(), want, "after {text}");
+    Ok(())
+}
+
+#[test]
+fn applies_edits(rt: HostRuntime) -> Result<(), Fail> {
+    let mut bundle = Bundle::empty(rt.alloc());
+    for row in STEPS.lines() {
+        check_step(&rt, rt.alloc(), &mut bundle, row)?;
     }
     Ok(())
 }

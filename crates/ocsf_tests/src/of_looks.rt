@@ -1,7 +1,13 @@
-use ocsf_bundle::{Bundle, Cell, Part, Shows, edit_of};
-use ocsf_raw::{DictFile, ExtFile, ItemFile, RawAttr, RawError, RawFile, below, folder};
+ghost use Rattle.std.specs.Prelude.{All, IfOk};
+ghost use Rattle.ocsf_bundle.specs.Edits.{IsValidChange};
+
+use ocsf_bundle::{Bundle, Cell, Edit, Part, Shows, StoredFile, edit_of};
+use ocsf_raw::{
+    CategoryEntry, DictFile, ExtFile, ItemFile, ProfileFile, RawAttr, RawFile, below, folder,
+};
 use ocsf_tree::{Key, Side, Text, read};
 use std::alloc::{AllocError, Global};
+use std::process::Abort;
 use std::test::Fail;
 
 // Two extensions that count, one of them in a folder of another name, and one that doesn't; a name, a
@@ -9,6 +15,7 @@ use std::test::Fail;
 const FILES: &str = r#"[
 {"put":"dictionary.json","body":{"attributes":{"a":{"caption":"core a"},"b":{"caption":"core b"}},"types":{"attributes":{"t":{"caption":"core t"}}}}},
 {"put":"categories.json","body":{"attributes":{"c":{"uid":1,"caption":"core c"}}}},
+{"put":"version.json","body":{"version":"1.3.0"}},
 {"put":"objects/file.json","body":{"name":"file","caption":"core file"}},
 {"put":"events/file.json","body":{"name":"file","caption":"core class"}},
 {"put":"profiles/p.json","body":{"name":"p","caption":"core p"}},
@@ -30,15 +37,88 @@ const FILES: &str = r#"[
 {"put":"extensions/none/objects/f.json","body":{"name":"lost","caption":"lost"}},
 {"enable":"win"},{"enable":"lin"},{"enable":"mac"}]"#;
 
-fn bundle_of(rt: &HostRuntime, text: &str) -> Result<Bundle, Fail> {
-    let alloc = rt.alloc();
-    let edit = edit_of(alloc, &read(alloc, text.as_bytes())?)?;
-    Ok(Bundle::empty(alloc).after(&edit)?)
+const LOOKS: &str = r#"item object:file => core file;
+item object:win/file => -
+item object:lin/own => lin own;
+item object:own => -
+item object:none/lost => -
+item class:file => core class;
+item class:win/file => win class;
+exists object:file => there;
+exists object:lin/file => -
+exists class:win/file => there;
+patches object:file => lin patch;win patch;
+patches object:win/file => -
+patches class:file => -
+profile p => core p;
+profile win/p => win p;
+profile windows/p => -
+include :includes/i.json => core i;
+include win:includes/i.json => win i;
+include win:profiles/p.json => win p;
+include :profiles/q.json => -
+include :objects/file.json => -
+dict a => core a;lin a;win a;
+dict b => core b;
+dict c => -
+kind t => core t;win t;
+category c => core c;
+category win/c => win c;
+category other => built in;
+category win/other => win other;
+ext win => win;
+ext off => -
+ext mac => -"#;
+
+// Further edits, each on what the ones before it left: extensions come and go, a folder is renamed, the
+// order of the layers is turned, and two files, two folders and two entries have one key.
+const EDITS: &str = r#"[{"disable":"win"}]
+[{"enable":"off"},{"enable":"win"},{"disable":"mac"}]
+[{"remove":"extensions/windows/extension.json"},{"put":"extensions/w/extension.json","body":{"name":"win","uid":9,"caption":"w"}},{"put":"extensions/w/objects/f.json","body":{"name":"file","caption":"w file"}},{"put":"extensions/w/includes/i.json","body":{"attributes":{"b":{"caption":"w i"}}}}]
+[{"put":"extensions/windows/extension.json","body":{"name":"win","uid":2,"caption":"windows"}}]
+[{"put":"extensions/lin/extension.json","body":{"name":"lin","uid":19}},{"remove":"extensions/off/extension.json"}]
+[{"put":"objects/a.json","body":{"name":"file","caption":"first file"}},{"put":"profiles/a/a.json","body":{"name":"p","caption":"first p"}},{"put":"extensions/w/events/a.json","body":{"name":"file"}}]
+[{"put":"categories.json","body":{"attributes":{"other":{"uid":7,"caption":"own other"}}}},{"put":"extensions/w/categories.json","body":{"attributes":{"c":{"uid":2,"caption":"w c"}}}},{"put":"extensions/lin/events/f.json","body":{"extends":"file","caption":"lin class"}},{"put":"extensions/lin/events/g.json","body":{"extends":"win/file","caption":"nothing"}}]
+[{"remove":"objects/file.json"},{"remove":"objects/a.json"},{"remove":"dictionary.json"},{"disable":"lin"}]"#;
+
+// ---- small helpers
+
+// The parts of the text around the mark; all of it is the second one where the mark isn't there.
+fn halves<'a>(text: &'a str, mark: &str) -> (&'a str, &'a str) {
+    match text.split_once(mark) {
+        Some(halves) => halves,
+        None => ("", text),
+    }
+}
+
+fn push_word(line: &mut String, word: &str) -> Result<(), AllocError> {
+    line.push_str(word)?;
+    line.push(';')
+}
+
+fn edit_in(alloc: Global, text: &str) -> Result<Edit, Fail>
+    ensures { IfOk result (λ edit. All IsValidChange edit.changes) }
+{
+    let tree = read(alloc, text.as_bytes())?;
+    let edit = edit_of(alloc, &tree)?;
+    Ok(edit)
+}
+
+fn after(alloc: Global, bundle: &Bundle, text: &str) -> Result<Bundle, Fail> {
+    let edit = edit_in(alloc, text)?;
+    Ok(bundle.after(&edit)?)
 }
 
 fn caption(text: &Option<Text>) -> &str {
     match text {
         Some(text) => text.as_str(),
+        None => "",
+    }
+}
+
+fn first_caption(entries: &[RawAttr]) -> &str {
+    match entries.first() {
+        Some(entry) => caption(&entry.caption),
         None => "",
     }
 }
@@ -59,240 +139,30 @@ fn told<'a>(part: &Part<'a>) -> &'a str {
     }
 }
 
-fn first_caption(entries: &[RawAttr]) -> &str {
-    match entries.first() {
-        Some(entry) => caption(&entry.caption),
-        None => "",
-    }
-}
-
 // What the cell shows, in a line.
 fn shown(alloc: Global, bundle: &Bundle, cell: &Cell) -> Result<String, AllocError> {
     let mut line = String::new(alloc);
     for k in 0..bundle.most() {
-        match bundle.look(cell, k) {
-            Some(part) => push_word(&mut line, told(&part))?,
-            None => return Ok(line),
-        }
+        let Some(part) = bundle.look(cell, k) else {
+            break;
+        };
+        push_word(&mut line, told(&part))?;
     }
     Ok(line)
 }
 
-fn push_word(line: &mut String, word: &str) -> Result<(), AllocError> {
-    line.push_str(word)?;
-    line.push(';')?;
-    Ok(())
-}
-
-// ---- the same by going through all files
-
-// The extension of the file, none for core; nothing where the file doesn't count.
-fn counted<'a>(bundle: &'a Bundle, path: &str) -> Option<Option<&'a ExtFile>> {
-    if folder(path) != "extensions" {
-        return Some(None);
-    }
-    for file in bundle.files() {
-        if let RawFile::Extension(ext) = &file.get().raw
-            && folder(below(file.get().path.as_str())) == folder(below(path))
-            && bundle.enabled().iter().any(|name| *name == ext.name)
-        {
-            return Some(Some(ext));
-        }
-    }
-    None
-}
-
-fn is_key(ext: Option<&ExtFile>, name: &str, key: &str) -> bool {
-    match ext {
-        Some(ext) => folder(key) == ext.name.as_str() && below(key) == name,
-        None => key == name,
-    }
-}
-
-fn is_named(file: &ItemFile, name: &Text) -> bool {
-    match &file.name {
-        Some(own) => *own == *name,
-        None => false,
-    }
-}
-
-// Whether the file of the extension patches the item of that name.
-fn patches(ext: Option<&ExtFile>, file: &ItemFile, name: &str) -> bool {
-    match &file.parent {
-        Some(parent) => {
-            ext.is_some()
-                && parent.as_str() == name
-                && !name.as_bytes().contains(&b'/')
-                && (file.name.is_none() || is_named(file, parent))
-        }
-        None => false,
-    }
-}
-
-fn is_item(ext: Option<&ExtFile>, file: &ItemFile, key: &Key) -> bool {
-    let is_patch = match &file.parent {
-        Some(parent) => patches(ext, file, parent.as_str()),
-        None => false,
-    };
-    match &file.name {
-        Some(name) => !is_patch
-            && file.side == key.side
-            && is_key(ext, name.as_str(), key.name.as_str()),
-        None => false,
-    }
-}
-
-fn plain_item<'a>(cell: &Cell, ext: Option<&ExtFile>, file: &'a ItemFile) -> Option<&'a str> {
-    match cell {
-        Cell::Item(key) if is_item(ext, file, key) => Some(caption(&file.caption)),
-        Cell::Exists(key) if is_item(ext, file, key) => Some("there"),
-        Cell::Patches(key) if file.side == key.side && patches(ext, file, key.name.as_str()) => {
-            Some(caption(&file.caption))
-        }
-        _ => None,
-    }
-}
-
-fn is_here(cell: &Cell, ext: Option<&ExtFile>, path: &str) -> bool {
-    match (cell, ext) {
-        (Cell::Include { from, path: wanted }, Some(ext)) => {
-            *from == ext.name && wanted.as_str() == below(below(path))
-        }
-        (Cell::Include { from, path: wanted }, None) => from.is_empty() && wanted.as_str() == path,
-        _ => false,
-    }
-}
-
-fn plain_entry<'a>(cell: &Cell, file: &'a DictFile) -> Option<&'a str> {
-    match cell {
-        Cell::Dict(name) => {
-            let entry = file
-                .attributes
-                .as_slice()
-                .iter()
-                .find(|entry| entry.name == *name)?;
-            Some(caption(&entry.caption))
-        }
-        Cell::Kind(name) => {
-            let entry = file
-                .types
-                .as_slice()
-                .iter()
-                .find(|entry| entry.name == *name)?;
-            Some(caption(&entry.caption))
-        }
-        _ => None,
-    }
-}
-
-// What the file shows of the cell.
-fn plain_part<'a>(
-    cell: &Cell,
-    ext: Option<&ExtFile>,
-    path: &str,
-    raw: &'a RawFile,
-) -> Option<&'a str> {
-    match (cell, raw) {
-        (_, RawFile::Item(file)) => plain_item(cell, ext, file),
-        (_, RawFile::Dictionary(file)) => plain_entry(cell, file),
-        (Cell::Profile(key), RawFile::Profile(file))
-            if is_key(ext, file.name.as_str(), key.as_str()) => { Some(caption(&file.caption)) }
-        (Cell::Include { .. }, RawFile::Profile(file)) if is_here(cell, ext, path) => {
-            Some(caption(&file.caption))
-        }
-        (Cell::Include { .. }, RawFile::Include(entries)) if is_here(cell, ext, path) => {
-            Some(first_caption(entries.as_slice()))
-        }
-        (Cell::Category(key), RawFile::Categories(entries)) => {
-            let entry = entries
-                .as_slice()
-                .iter()
-                .find(|entry| is_key(ext, entry.name.as_str(), key.as_str()))?;
-            Some(caption(&entry.caption))
-        }
-        (Cell::Ext(name), RawFile::Extension(file)) if file.name == *name => Some(caption(
-            &file.caption,
-        )),
-        _ => None,
-    }
-}
-
-// What the files of that layer show, or those of all layers by path.
-fn push_layer(
-    line: &mut String,
-    bundle: &Bundle,
-    cell: &Cell,
-    layer: Option<u32>,
-) -> Result<(), AllocError> {
-    for file in bundle.files() {
-        let file = file.get();
-        let Some(ext) = counted(bundle, file.path.as_str()) else {
-            continue;
-        };
-        let uid = match ext {
-            Some(ext) => ext.uid,
-            None => 0,
-        };
-        if layer.is_none() || layer == Some(uid) {
-            if let Some(word) = plain_part(cell, ext, file.path.as_str(), &file.raw) {
-                push_word(line, word)?;
-            }
-        }
-    }
-    Ok(())
-}
-
-fn is_layered(cell: &Cell) -> bool {
-    matches!(
-        cell,
-        Cell::Patches(_) | Cell::Dict(_) | Cell::Kind(_) | Cell::Category(_)
-    )
-}
-
-fn is_other(cell: &Cell) -> bool {
-    match cell {
-        Cell::Category(key) => key.as_str() == "other",
-        _ => false,
-    }
-}
-
-fn shown_plainly(alloc: Global, bundle: &Bundle, cell: &Cell) -> Result<String, AllocError> {
-    let mut line = String::new(alloc);
-    if is_layered(cell) {
-        for uid in 0..1000 {
-            push_layer(&mut line, bundle, cell, Some(uid))?;
-        }
+fn cell(kind: &str, from: Text, name: Text) -> Cell {
+    let side = if from.as_str() == "class" {
+        Side::Class
     } else {
-        push_layer(&mut line, bundle, cell, None)?;
-    }
-    if line.is_empty() && is_other(cell) {
-        push_word(&mut line, "built in")?;
-    }
-    Ok(line)
-}
-
-// ---- cells by a word and a text
-
-fn cell(kind: &str, name: Text, from: Text) -> Cell {
+        Side::Object
+    };
     match kind {
-        "class" => Cell::Item(Key {
-            side: Side::Class,
-            name,
-        }),
-        "object" => Cell::Item(Key {
-            side: Side::Object,
-            name,
-        }),
-        "exists" => Cell::Exists(Key {
-            side: Side::Object,
-            name,
-        }),
-        "patches" => Cell::Patches(Key {
-            side: Side::Object,
-            name,
-        }),
+        "item" => Cell::Item(Key { side, name }),
+        "exists" => Cell::Exists(Key { side, name }),
+        "patches" => Cell::Patches(Key { side, name }),
         "profile" => Cell::Profile(name),
-        "" | "win" => Cell::Include { from, path: name },
+        "include" => Cell::Include { from, path: name },
         "dict" => Cell::Dict(name),
         "kind" => Cell::Kind(name),
         "category" => Cell::Category(name),
@@ -300,186 +170,449 @@ fn cell(kind: &str, name: Text, from: Text) -> Cell {
     }
 }
 
+fn cell_of(alloc: Global, text: &str) -> Result<Cell, AllocError> {
+    let (kind, rest) = halves(text, " ");
+    let (from, name) = halves(rest, ":");
+    let from = Text::of(alloc, from)?;
+    let name = Text::of(alloc, name)?;
+    Ok(cell(kind, from, name))
+}
+
+fn key_line(alloc: Global, bundle: &Bundle) -> Result<String, AllocError> {
+    let mut line = String::new(alloc);
+    for k in 0..bundle.most() {
+        let Some(key) = bundle.key_at(k) else {
+            break;
+        };
+        line.push_str(key.side.as_str())?;
+        line.push(':')?;
+        push_word(&mut line, key.name.as_str())?;
+    }
+    Ok(line)
+}
+
+// ---- the same by going through all files: the lines `CELL => WORD;` that they say
+
+fn is_enabled(bundle: &Bundle, name: &Text) -> bool {
+    for enabled in bundle.enabled() {
+        if *enabled == *name {
+            return true;
+        }
+    }
+    false
+}
+
+fn is_in_folder(path: &str, name: &str) -> bool {
+    folder(path) == "extensions" && folder(below(path)) == name
+}
+
+// The extension of that folder, where it counts.
+fn extension_in<'a>(bundle: &'a Bundle, name: &str) -> Option<&'a ExtFile> {
+    for file in bundle.files() {
+        let file = file.get();
+        if let RawFile::Extension(ext) = &file.raw {
+            if is_in_folder(file.path.as_str(), name) && is_enabled(bundle, &ext.name) {
+                return Some(ext);
+            }
+        }
+    }
+    None
+}
+
+// The name and the uid of the file's extension, empty and 0 for core; nothing where the file doesn't count.
+fn counted<'a>(bundle: &'a Bundle, path: &str) -> Option<(&'a str, u32)> {
+    if folder(path) != "extensions" {
+        return Some(("", 0));
+    }
+    match extension_in(bundle, folder(below(path))) {
+        Some(ext) => Some((ext.name.as_str(), ext.uid)),
+        None => None,
+    }
+}
+
+fn say(lines: &mut String, cell: &str, name: &str, word: &str) -> Result<(), AllocError> {
+    lines.push_str(cell)?;
+    lines.push_str(name)?;
+    lines.push_str(" => ")?;
+    lines.push_str(word)?;
+    lines.push_str(";\n")
+}
+
+// As `say`, where the name is one within the extension.
+fn say_key(
+    lines: &mut String,
+    cell: &str,
+    ext: &str,
+    name: &str,
+    word: &str,
+) -> Result<(), AllocError> {
+    lines.push_str(cell)?;
+    lines.push_str(ext)?;
+    say(lines, if ext.is_empty() { "" } else { "/" }, name, word)
+}
+
+fn by_side(side: Side, class: &'static str, object: &'static str) -> &'static str {
+    match side {
+        Side::Class => class,
+        Side::Object => object,
+    }
+}
+
+// The core item that the file of the extension patches.
+fn patched<'a>(ext: &str, file: &'a ItemFile) -> Option<&'a Text> {
+    match (&file.parent, &file.name) {
+        (Some(parent), Some(name)) if !ext.is_empty() && *parent == *name => Some(parent),
+        (Some(parent), None) if !parent.as_str().as_bytes().contains(&b'/') => Some(parent),
+        _ => None,
+    }
+}
+
+fn say_own(
+    lines: &mut String,
+    ext: &str,
+    side: Side,
+    name: &str,
+    word: &str,
+) -> Result<(), AllocError> {
+    let item = by_side(side, "item class:", "item object:");
+    let exists = by_side(side, "exists class:", "exists object:");
+    say_key(lines, item, ext, name, word)?;
+    say_key(lines, exists, ext, name, "there")
+}
+
+fn say_item(lines: &mut String, ext: &str, file: &ItemFile) -> Result<(), AllocError> {
+    let word = caption(&file.caption);
+    let patches = by_side(file.side, "patches class:", "patches object:");
+    match (patched(ext, file), &file.name) {
+        (Some(parent), _) => say(lines, patches, parent.as_str(), word),
+        (None, Some(name)) => say_own(lines, ext, file.side, name.as_str(), word),
+        (None, None) => Ok(()),
+    }
+}
+
+fn say_dictionary(lines: &mut String, file: &DictFile) -> Result<(), AllocError> {
+    for entry in file.attributes.as_slice() {
+        say(lines, "dict ", entry.name.as_str(), caption(&entry.caption))?;
+    }
+    for entry in file.types.as_slice() {
+        say(lines, "kind ", entry.name.as_str(), caption(&entry.caption))?;
+    }
+    Ok(())
+}
+
+fn say_categories(
+    lines: &mut String,
+    ext: &str,
+    entries: &[CategoryEntry],
+) -> Result<(), AllocError> {
+    for entry in entries {
+        let word = caption(&entry.caption);
+        say_key(lines, "category ", ext, entry.name.as_str(), word)?;
+    }
+    Ok(())
+}
+
+fn say_included(lines: &mut String, ext: &str, path: &str, word: &str) -> Result<(), AllocError> {
+    let path = if ext.is_empty() {
+        path
+    } else {
+        below(below(path))
+    };
+    lines.push_str("include ")?;
+    lines.push_str(ext)?;
+    say(lines, ":", path, word)
+}
+
+fn say_profile(
+    lines: &mut String,
+    ext: &str,
+    path: &str,
+    file: &ProfileFile,
+) -> Result<(), AllocError> {
+    let word = caption(&file.caption);
+    say_key(lines, "profile ", ext, file.name.as_str(), word)?;
+    say_included(lines, ext, path, word)
+}
+
+fn say_file(lines: &mut String, ext: &str, path: &str, raw: &RawFile) -> Result<(), AllocError> {
+    match raw {
+        RawFile::Version(_) => Ok(()),
+        RawFile::Item(file) => say_item(lines, ext, file),
+        RawFile::Dictionary(file) => say_dictionary(lines, file),
+        RawFile::Categories(entries) => say_categories(lines, ext, entries.as_slice()),
+        RawFile::Profile(file) => say_profile(lines, ext, path, file),
+        RawFile::Include(entries) => {
+            say_included(lines, ext, path, first_caption(entries.as_slice()))
+        }
+        RawFile::Extension(file) => say(lines, "ext ", file.name.as_str(), caption(&file.caption)),
+    }
+}
+
+// What the file says, where it counts and is of one of the layers from `from` to `to`.
+fn say_in(
+    lines: &mut String,
+    bundle: &Bundle,
+    file: &StoredFile,
+    from: u32,
+    to: u32,
+) -> Result<(), AllocError> {
+    match counted(bundle, file.path.as_str()) {
+        Some((ext, uid)) if from <= uid && uid <= to => {
+            say_file(lines, ext, file.path.as_str(), &file.raw)
+        }
+        _ => Ok(()),
+    }
+}
+
+fn say_layers(lines: &mut String, bundle: &Bundle, from: u32, to: u32) -> Result<(), AllocError> {
+    for file in bundle.files() {
+        say_in(lines, bundle, file.get(), from, to)?;
+    }
+    Ok(())
+}
+
+fn by_path(alloc: Global, bundle: &Bundle) -> Result<String, AllocError> {
+    let mut lines = String::new(alloc);
+    say_layers(&mut lines, bundle, 0, 999)?;
+    Ok(lines)
+}
+
+// The uids of extensions are below 20 here.
+fn by_layer(alloc: Global, bundle: &Bundle) -> Result<String, AllocError> {
+    let mut lines = String::new(alloc);
+    for uid in 0..20 {
+        say_layers(&mut lines, bundle, uid, uid)?;
+    }
+    Ok(lines)
+}
+
+// What the lines say of that cell; of several files that say that it exists one will do.
+fn said(alloc: Global, lines: &str, cell: &str) -> Result<String, AllocError> {
+    let mut line = String::new(alloc);
+    let (kind, _) = halves(cell, " ");
+    for row in lines.lines() {
+        let (said, word) = halves(row, " => ");
+        if said == cell && (line.is_empty() || kind != "exists") {
+            line.push_str(word)?;
+        }
+    }
+    if line.is_empty() && cell == "category other" {
+        line.push_str("built in;")?;
+    }
+    Ok(line)
+}
+
+fn is_layered(cell: &Cell) -> bool {
+    match cell {
+        Cell::Patches(_) | Cell::Dict(_) | Cell::Kind(_) | Cell::Category(_) => true,
+        _ => false,
+    }
+}
+
+// The key of an item that the row is of.
+fn item_key(row: &str) -> Option<&str> {
+    match halves(halves(row, " => ").0, " ") {
+        ("item", key) => Some(key),
+        _ => None,
+    }
+}
+
+// Whether the key comes after the last one, and before the next one that was found so far.
+fn is_nearer(key: &str, last: &str, next: Option<&str>) -> bool {
+    match next {
+        Some(next) => last < key && key < next,
+        None => last < key,
+    }
+}
+
+fn next_key<'a>(lines: &'a str, last: &str) -> Option<&'a str> {
+    let mut next = None;
+    for row in lines.lines() {
+        if let Some(key) = item_key(row) {
+            if is_nearer(key, last, next) {
+                next = Some(key);
+            }
+        }
+    }
+    next
+}
+
+fn said_keys(alloc: Global, lines: &str) -> Result<String, AllocError> {
+    let mut line = String::new(alloc);
+    let mut last = "";
+    for _ in 0..lines.len() {
+        let Some(key) = next_key(lines, last) else {
+            break;
+        };
+        push_word(&mut line, key)?;
+        last = key;
+    }
+    Ok(line)
+}
+
+// ---- the two compared
+
+fn or_none(line: &str) -> &str {
+    if line.is_empty() { "-" } else { line }
+}
+
+fn is_seen(alloc: Global, bundle: &Bundle, cell: &str, want: &str) -> Result<bool, AllocError> {
+    let cell = cell_of(alloc, cell)?;
+    let line = shown(alloc, bundle, &cell)?;
+    Ok(or_none(line.as_str()) == want)
+}
+
+fn check_looks(
+    rt: &impl Abort,
+    alloc: Global,
+    bundle: &mut Bundle,
+    edit: &str,
+    rows: &str,
+) -> Result<(), Fail> {
+    *bundle = after(alloc, bundle, edit)?;
+    for row in rows.lines() {
+        let (cell, want) = halves(row, " => ");
+        assert!(rt; is_seen(alloc, bundle, cell, want)?, "at {row}");
+    }
+    Ok(())
+}
+
 #[test]
 fn shows_what_the_files_say(rt: HostRuntime) -> Result<(), Fail> {
-    let alloc = rt.alloc();
-    let bundle = bundle_of(&rt, FILES)?;
-    let rows: [(&str, &str, &str); 30] = [
-        ("object", "file", "core file;"),
-        ("object", "win/file", ""),
-        ("object", "lin/own", "lin own;"),
-        ("object", "own", ""),
-        ("object", "none/lost", ""),
-        ("class", "file", "core class;"),
-        ("class", "win/file", "win class;"),
-        ("exists", "file", "there;"),
-        ("exists", "lin/file", ""),
-        ("patches", "file", "lin patch;win patch;"),
-        ("patches", "win/file", ""),
-        ("profile", "p", "core p;"),
-        ("profile", "win/p", "win p;"),
-        ("profile", "windows/p", ""),
-        ("", "includes/i.json", "core i;"),
-        ("win", "includes/i.json", "win i;"),
-        ("win", "profiles/p.json", "win p;"),
-        ("", "profiles/q.json", ""),
-        ("", "objects/file.json", ""),
-        ("dict", "a", "core a;lin a;win a;"),
-        ("dict", "b", "core b;"),
-        ("dict", "c", ""),
-        ("kind", "t", "core t;win t;"),
-        ("category", "c", "core c;"),
-        ("category", "win/c", "win c;"),
-        ("category", "other", "built in;"),
-        ("category", "win/other", "win other;"),
-        ("ext", "win", "win;"),
-        ("ext", "off", ""),
-        ("ext", "mac", ""),
-    ];
-    for (kind, name, want) in rows {
-        let cell = cell(kind, Text::of(alloc, name)?, Text::of(alloc, kind)?);
-        let line = shown(alloc, &bundle, &cell)?;
-        let plain = shown_plainly(alloc, &bundle, &cell)?;
-        assert_eq!(rt; line.as_str(), want, "at {kind} {name}");
-        assert_eq!(rt; plain.as_str(), want, "plainly at {kind} {name}");
+    let mut bundle = Bundle::empty(rt.alloc());
+    check_looks(&rt, rt.alloc(), &mut bundle, FILES, LOOKS)
+}
+
+// All that the files say, by their paths and by their layers.
+#[derive(Drop)]
+struct Sayings<'a> {
+    by_path: &'a str,
+    by_layer: &'a str,
+}
+
+fn is_said(
+    alloc: Global,
+    bundle: &Bundle,
+    sayings: &Sayings<'_>,
+    text: &str,
+) -> Result<bool, AllocError> {
+    let cell = cell_of(alloc, text)?;
+    let lines = if is_layered(&cell) {
+        sayings.by_layer
+    } else {
+        sayings.by_path
+    };
+    let said = said(alloc, lines, text)?;
+    let shown = shown(alloc, bundle, &cell)?;
+    Ok(said.as_str() == shown.as_str())
+}
+
+fn are_keys(alloc: Global, bundle: &Bundle, lines: &str) -> Result<bool, AllocError> {
+    let said = said_keys(alloc, lines)?;
+    let shown = key_line(alloc, bundle)?;
+    Ok(said.as_str() == shown.as_str())
+}
+
+// The first of the rows whose cell the bundle shows otherwise than its files say, or nothing.
+fn first_other<'a>(
+    alloc: Global,
+    bundle: &Bundle,
+    sayings: &Sayings<'_>,
+    rows: &'a str,
+) -> Result<&'a str, AllocError> {
+    for row in rows.lines() {
+        let (cell, _) = halves(row, " => ");
+        if !is_said(alloc, bundle, sayings, cell)? {
+            return Ok(row);
+        }
+    }
+    Ok(if are_keys(alloc, bundle, sayings.by_path)? {
+        ""
+    } else {
+        "keys"
+    })
+}
+
+fn first_difference(alloc: Global, bundle: &Bundle) -> Result<&'static str, AllocError> {
+    let by_path = by_path(alloc, bundle)?;
+    let by_layer = by_layer(alloc, bundle)?;
+    let sayings = Sayings {
+        by_path: by_path.as_str(),
+        by_layer: by_layer.as_str(),
+    };
+    first_other(alloc, bundle, &sayings, LOOKS)
+}
+
+fn check_edit(rt: &impl Abort, alloc: Global, bundle: &mut Bundle, edit: &str) -> Result<(), Fail> {
+    *bundle = after(alloc, bundle, edit)?;
+    let found = first_difference(alloc, bundle)?;
+    assert_eq!(rt; found, "", "after {edit}");
+    Ok(())
+}
+
+fn check_edits(
+    rt: &impl Abort,
+    alloc: Global,
+    bundle: &mut Bundle,
+    first: &str,
+    edits: &str,
+) -> Result<(), Fail> {
+    check_edit(rt, alloc, bundle, first)?;
+    for edit in edits.lines() {
+        check_edit(rt, alloc, bundle, edit)?;
     }
     Ok(())
 }
 
 #[test]
-fn keys_in_order(rt: HostRuntime) -> Result<(), Fail> {
-    let bundle = bundle_of(&rt, FILES)?;
-    let rows = [
-        "class:file",
-        "class:win/file",
-        "object:file",
-        "object:lin/own",
-    ];
-    for (k, want) in rows.iter().enumerate() {
-        match bundle.key_at(k) {
-            Some(key) => assert_eq!(rt; key.to_text()?.as_str(), *want),
-            None => assert!(rt; false, "no key at {k}"),
-        }
-    }
-    assert!(rt; bundle.key_at(4).is_none());
-    Ok(())
-}
-
-// The paths, texts and enabled names of a bundle, in a line.
-fn line_of(alloc: Global, bundle: &Bundle) -> Result<String, Fail> {
-    let mut line = String::new(alloc);
-    for file in bundle.files() {
-        push_word(&mut line, file.get().path.as_str())?;
-        push_word(&mut line, str::from_utf8(file.get().text.as_slice())?)?;
-    }
-    for name in bundle.enabled() {
-        push_word(&mut line, name.as_str())?;
-    }
-    Ok(line)
-}
-
-fn fault_line(alloc: Global, error: &RawError) -> Result<String, AllocError> {
-    let mut line = String::new(alloc);
-    match error {
-        RawError::Fault(fault) => {
-            push_word(&mut line, fault.code.as_str())?;
-            push_word(&mut line, fault.subject.as_str())?;
-            push_word(&mut line, fault.name.as_str())?;
-        }
-        RawError::Memory => push_word(&mut line, "memory")?,
-    }
-    Ok(line)
-}
-
-#[test]
-fn applies_edits(rt: HostRuntime) -> Result<(), Fail> {
-    let alloc = rt.alloc();
-    let rows: [(&str, &str); 12] = [
-        ("[]", ""),
-        (
-            r#"[{"put":"objects/b.json","body":{"name":"b"}},{"put":"objects/a.json","body":{"name":"a"}},{"enable":"y"},{"enable":"x"},{"enable":"y"}]"#,
-            r#"objects/a.json;{"name":"a"};objects/b.json;{"name":"b"};x;y;"#,
-        ),
-        (
-            r#"[{"put":"objects/a.json","body":{ "name" : "c" }},{"put":"objects/a.json","body":{"zz":1,"name":"d"}},{"disable":"z"},{"disable":"x"}]"#,
-            r#"objects/a.json;{"name":"d","zz":1};objects/b.json;{"name":"b"};y;"#,
-        ),
-        (
-            r#"[{"remove":"objects/q.json"}]"#,
-            "absent;objects/q.json;;",
-        ),
-        (
-            r#"[{"remove":"nowhere"},{"put":"nowhere","body":5}]"#,
-            "absent;nowhere;;",
-        ),
-        (
-            r#"[{"put":"nowhere","body":5},{"remove":"nowhere"}]"#,
-            "path_unknown;nowhere;;",
-        ),
-        (
-            r#"[{"remove":"objects/a.json"},{"remove":"objects/a.json"}]"#,
-            "absent;objects/a.json;;",
-        ),
-        (
-            r#"[{"put":"objects/c.json","body":[]},{"put":"nowhere","body":5}]"#,
-            "shape;objects/c.json; not_an_object;",
-        ),
-        (
-            r#"[{"remove":"objects/a.json"},{"put":"objects/a.json","body":{"name":"e"}},{"remove":"objects/b.json"}]"#,
-            r#"objects/a.json;{"name":"e"};y;"#,
-        ),
-        (
-            r#"[{"put":"objects/c.json","body":{"name":"c"}},{"remove":"objects/c.json"},{"disable":"y"},{"enable":"y"}]"#,
-            r#"objects/a.json;{"name":"e"};y;"#,
-        ),
-        (
-            r#"[{"put":"objects/c.json","body":{}}]"#,
-            "shape;objects/c.json;/name missing;",
-        ),
-        (r#"[{"remove":"objects/a.json"},{"disable":"y"}]"#, ""),
-    ];
-    let mut bundle = Bundle::empty(alloc);
-    for (text, want) in rows {
-        let edit = edit_of(alloc, &read(alloc, text.as_bytes())?)?;
-        let line = match bundle.after(&edit) {
-            Ok(made) => {
-                bundle = made;
-                line_of(alloc, &bundle)?
-            }
-            Err(error) => fault_line(alloc, &error)?,
-        };
-        assert_eq!(rt; line.as_str(), want, "after {text}");
-    }
-    Ok(())
+fn shows_what_going_through_all_files_shows(rt: HostRuntime) -> Result<(), Fail> {
+    let mut bundle = Bundle::empty(rt.alloc());
+    check_edits(&rt, rt.alloc(), &mut bundle, FILES, EDITS)
 }
 
 // ---- what there is
 
-fn joined(rt: &HostRuntime, names: &[Text]) -> Result<String, Fail> {
-    let mut line = String::new(rt.alloc());
+fn push_names(line: &mut String, names: &[Text]) -> Result<(), AllocError> {
     for name in names {
-        line.push_str(name.as_str())?;
-        line.push(';')?;
+        push_word(line, name.as_str())?;
     }
+    line.push(' ')
+}
+
+// The keys, attributes, types, categories and profiles of a bundle, and its version.
+fn listed(alloc: Global, bundle: &Bundle) -> Result<String, AllocError> {
+    let mut line = key_line(alloc, bundle)?;
+    line.push(' ')?;
+    push_names(&mut line, bundle.attribute_names()?.as_slice())?;
+    push_names(&mut line, bundle.type_names()?.as_slice())?;
+    push_names(&mut line, bundle.category_keys()?.as_slice())?;
+    push_names(&mut line, bundle.profile_keys()?.as_slice())?;
+    line.push_str(bundle.version())?;
     Ok(line)
 }
 
+fn is_listed(alloc: Global, bundle: &Bundle, want: &str) -> Result<bool, AllocError> {
+    let line = listed(alloc, bundle)?;
+    Ok(line.as_str() == want)
+}
+
+fn check_list(
+    rt: &impl Abort,
+    alloc: Global,
+    bundle: &mut Bundle,
+    edit: &str,
+    want: &str,
+) -> Result<(), Fail> {
+    *bundle = after(alloc, bundle, edit)?;
+    assert!(rt; is_listed(alloc, bundle, want)?, "not {want}");
+    Ok(())
+}
+
+const LISTED: &str =
+    "class:file;class:win/file;object:file;object:lin/own; a;b; t; c;other;win/c;win/other; p;win/p; 1.3.0";
+
 #[test]
 fn lists(rt: HostRuntime) -> Result<(), Fail> {
-    let bundle = bundle_of(&rt, FILES)?;
-    let attributes = joined(&rt, bundle.attribute_names()?.as_slice())?;
-    assert_eq!(rt; attributes.as_str(), "a;b;");
-    let types = joined(&rt, bundle.type_names()?.as_slice())?;
-    assert_eq!(rt; types.as_str(), "t;");
-    let categories = joined(&rt, bundle.category_keys()?.as_slice())?;
-    assert_eq!(rt; categories.as_str(), "c;other;win/c;win/other;");
-    let profiles = joined(&rt, bundle.profile_keys()?.as_slice())?;
-    assert_eq!(rt; profiles.as_str(), "p;win/p;");
-    assert_eq!(rt; bundle.version(), "");
-    let versioned = bundle_of(
-        &rt,
-        r#"[{"put":"version.json","body":{"version":"1.3.0"}}]"#,
-    )?;
-    assert_eq!(rt; versioned.version(), "1.3.0");
-    Ok(())
+    let mut bundle = Bundle::empty(rt.alloc());
+    check_list(&rt, rt.alloc(), &mut bundle, FILES, LISTED)
 }

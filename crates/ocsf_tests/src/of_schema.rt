@@ -33,6 +33,26 @@ fn attributes(alloc: Global) -> Result<Row<Attr>, AllocError>
     Ok(made)
 }
 
+fn item(alloc: Global, key: Key, hidden: bool, class_uid: u64, attrs: Row<Attr>) -> Item
+    ensures key { result.key ≡ key }
+    ensures attrs { result.attrs ≡ attrs }
+{
+    Item {
+        key,
+        caption: None,
+        description: None,
+        parent: None,
+        hidden,
+        category: None,
+        category_uid: None,
+        class_uid: Some(class_uid),
+        profiles: Row::new(alloc),
+        at_least_one: Row::new(alloc),
+        just_one: Row::new(alloc),
+        attrs,
+    }
+}
+
 fn piece<L: Ledger>(
     alloc: Global,
     side: Side,
@@ -45,20 +65,7 @@ fn piece<L: Ledger>(
 {
     let name = Text::of(alloc, name)?;
     let attrs = attributes(alloc)?;
-    let item = Item {
-        key: Key { side, name },
-        caption: None,
-        description: None,
-        parent: None,
-        hidden,
-        category: None,
-        category_uid: None,
-        class_uid: Some(class_uid),
-        profiles: Row::new(alloc),
-        at_least_one: Row::new(alloc),
-        just_one: Row::new(alloc),
-        attrs,
-    };
+    let item = item(alloc, Key { side, name }, hidden, class_uid, attrs);
     let piece = Piece::of(alloc, item, steps)?;
     Shared::new(alloc, piece)
 }
@@ -121,41 +128,64 @@ fn sample(alloc: Global) -> Result<Schema, Fail> {
     schema::<Brand>(alloc, Blank::new(1))
 }
 
+// Whether the item is hidden, if there is one.
+fn hidden(
+    alloc: Global,
+    schema: &Schema,
+    side: Side,
+    name: &str,
+) -> Result<Option<bool>, AllocError> {
+    let name = Text::of(alloc, name)?;
+    match schema.item(&Key { side, name }) {
+        Some(item) => Ok(Some(item.hidden)),
+        None => Ok(None),
+    }
+}
+
+fn has_items(alloc: Global, schema: &Schema) -> Result<bool, AllocError> {
+    let class = hidden(alloc, schema, Side::Class, "a")?;
+    let last = hidden(alloc, schema, Side::Class, "c")?;
+    let object = hidden(alloc, schema, Side::Object, "a")?;
+    let none = hidden(alloc, schema, Side::Object, "b")?;
+    Ok(class == Some(true) && last == Some(false) && object == Some(false) && none.is_none())
+}
+
 #[test]
 fn finds_items(rt: HostRuntime) -> Result<(), Fail> {
-    let alloc = rt.alloc();
-    let schema = sample(alloc)?;
-    for (side, name, hidden) in [
-        (Side::Class, "a", Some(true)),
-        (Side::Class, "c", Some(false)),
-        (Side::Object, "a", Some(false)),
-        (Side::Object, "b", None),
-    ] {
-        let name = Text::of(alloc, name)?;
-        let found = schema.item(&Key { side, name });
-        assert_eq!(rt; found.map(|item| item.hidden), hidden);
-    }
-    for (uid, name) in [(7, Some("b")), (8, None)] {
-        let found = schema.class_by_uid(uid);
-        assert_eq!(rt; found.map(|item| item.key.name.as_str()), name);
-    }
+    let schema = sample(rt.alloc())?;
+    assert!(rt; has_items(rt.alloc(), &schema)?);
     Ok(())
+}
+
+fn has_classes(schema: &Schema) -> bool {
+    match schema.class_by_uid(7) {
+        Some(item) => {
+            item.key.name.as_str() == "b"
+                && schema.attr(item, "uid").is_some()
+                && schema.attr(item, "time").is_none()
+                && schema.class_by_uid(8).is_none()
+        }
+        None => false,
+    }
+}
+
+fn has_parts(schema: &Schema) -> bool {
+    schema.kind("string_t").is_some()
+        && schema.kind("long_t").is_none()
+        && schema.has_profile("p")
+        && !schema.has_profile("d")
+}
+
+fn is_written(alloc: Global, schema: &Schema) -> bool {
+    let mut sink = MemorySink::new(alloc, Seq::new(alloc));
+    schema.write_to(&mut sink).is_ok() && sink.written().len() == schema.printed_len()
 }
 
 #[test]
 fn finds_parts(rt: HostRuntime) -> Result<(), Fail> {
-    let alloc = rt.alloc();
-    let schema = sample(alloc)?;
-    if let Some(item) = schema.class_by_uid(7) {
-        assert!(rt; schema.attr(item, "uid").is_some());
-        assert!(rt; schema.attr(item, "time").is_none());
-    }
-    assert!(rt; schema.kind("string_t").is_some());
-    assert!(rt; schema.kind("long_t").is_none());
-    assert!(rt; schema.has_profile("p"));
-    assert!(rt; !schema.has_profile("d"));
-    let mut sink = MemorySink::new(alloc, Seq::new(alloc));
-    assert_eq!(rt; schema.write_to(&mut sink).ok(), Some(()));
-    assert_eq!(rt; sink.written().len(), schema.printed_len());
+    let schema = sample(rt.alloc())?;
+    assert!(rt; has_classes(&schema));
+    assert!(rt; has_parts(&schema));
+    assert!(rt; is_written(rt.alloc(), &schema));
     Ok(())
 }

@@ -1,179 +1,226 @@
+ghost use Rattle.ocsf_tree.specs.Valid.{IsValid};
+
 use ocsf_tree::{
     Key, Member, Place, Row, Shared, Side, Step, Text, Tree, TreeError, TryClone, is_same,
     place_order, pointer, print, quote, read,
 };
-use std::alloc::Global;
+use std::alloc::{AllocError, Global};
 use std::cmp::Ordering;
+use std::process::Abort;
 use std::test::Fail;
 
-// The print of what the text reads as, `not json`, or the place of the first number that isn't whole.
-fn outcome(alloc: Global, text: &[u8]) -> Result<Row<u8>, Fail> {
+// A table is one text with a row a line, and no row is indented: a proof's time grows with the
+// literals of code, and not with their length.
+
+fn is_printed(alloc: Global, tree: &Tree, want: &[u8]) -> Result<bool, AllocError>
+    requires { IsValid tree.now }
+{
+    Ok(print(alloc, tree)?.as_slice() == want)
+}
+
+fn is_at(alloc: Global, place: &Place, want: &[u8]) -> Result<bool, AllocError> {
+    Ok(want.strip_prefix(b"at") == Some(pointer(alloc, place)?.as_str().as_bytes()))
+}
+
+// Whether the text reads as this print, is `not json`, or has its first number that isn't whole `at` a place.
+fn is_read(alloc: Global, text: &[u8], want: &[u8]) -> Result<bool, AllocError> {
     match read(alloc, text) {
-        Ok(tree) => Ok(print(alloc, &tree)?),
-        Err(TreeError::NotJson) => Ok(Row::of(alloc, b"not json")?),
-        Err(TreeError::NumberNotWhole(place)) => {
-            let mut told = Row::of(alloc, b"at ")?;
-            told.extend_from_slice(pointer(alloc, &place)?.as_str().as_bytes())?;
-            Ok(told)
-        }
-        Err(TreeError::Memory) => Err("no memory".into()),
+        Ok(tree) => is_printed(alloc, &tree, want),
+        Err(TreeError::NotJson) => Ok(want == b"not json".as_slice()),
+        Err(TreeError::NumberNotWhole(place)) => is_at(alloc, &place, want),
+        Err(TreeError::Memory) => Err(AllocError),
     }
 }
+
+// names by their bytes, the last value of a name that is repeated; whole numbers; the first place, and
+// not the first in the text; escapes, and characters that need none
+const VALUES: &str = r#" { "b" : [ true , false ] , "a" : { } }  | {"a":{},"b":[true,false]}
+{"b":1,"":2,"B":3,"ab":4} | {"":2,"B":3,"ab":4,"b":1}
+{"a":1,"b":2,"a":[3]} | {"a":[3],"b":2}
+{"a":1.5,"a":1} | {"a":1}
+{"a":1,"a":1.5} | at/a
+[0,-1] | [0,-1]
+18446744073709551615 | 18446744073709551615
+18446744073709551616 | at
+-9223372036854775808 | -9223372036854775808
+[-9223372036854775809] | at/0
+-0 | at
+1.0 | at
+[1,1e2] | at/1
+{"b":1.5,"a":[0,{"c/d~":0.5}]} | at/a/1/c~1d~0
+[1,[2.5],3.5] | at/1/0
+"\u0041\/\b\f\n\r\t\"\\" | "A/\b\f\n\r\t\"\\"
+"\ud83d\ude00" | "😀"
+"é" | "é"
+{"\u0061\n":""} | {"a\n":""}"#;
 
 #[test]
 fn reads_values(rt: HostRuntime) -> Result<(), Fail> {
-    let table: [(&[u8], &[u8]); 21] = [
-        (b"\t\n\r null \t\n\r", b"null"),
-        (
-            b" { \"b\" : [ true , false ] , \"a\" : { } } ",
-            b"{\"a\":{},\"b\":[true,false]}",
-        ),
-        // names by their bytes, the last value of a name that is repeated
-        (
-            b"{\"b\":1,\"\":2,\"B\":3,\"ab\":4}",
-            b"{\"\":2,\"B\":3,\"ab\":4,\"b\":1}",
-        ),
-        (b"{\"a\":1,\"b\":2,\"a\":[3]}", b"{\"a\":[3],\"b\":2}"),
-        (b"{\"a\":1.5,\"a\":1}", b"{\"a\":1}"),
-        (b"{\"a\":1,\"a\":1.5}", b"at /a"),
-        // whole numbers
-        (b"[0,-1]", b"[0,-1]"),
-        (b"18446744073709551615", b"18446744073709551615"),
-        (b"18446744073709551616", b"at "),
-        (b"-9223372036854775808", b"-9223372036854775808"),
-        (b"[-9223372036854775809]", b"at /0"),
-        (b"-0", b"at "),
-        (b"1.0", b"at "),
-        (b"[1,1e2]", b"at /1"),
-        // the first place, and not the first in the text
-        (b"{\"b\":1.5,\"a\":[0,{\"c/d~\":0.5}]}", b"at /a/1/c~1d~0"),
-        (b"[1,[2.5],3.5]", b"at /1/0"),
-        // escapes, and characters that need none
-        (
-            b"\"\\u0041\\/\\b\\f\\n\\r\\t\\\"\\\\\"",
-            b"\"A/\\b\\f\\n\\r\\t\\\"\\\\\"",
-        ),
-        (b"\"\\u0000\\u001F\\u007f\"", b"\"\\u0000\\u001f\x7f\""),
-        (b"\"\\ud83d\\ude00\"", b"\"\xf0\x9f\x98\x80\""),
-        (b"\"\xc3\xa9\"", b"\"\xc3\xa9\""),
-        (b"{\"\\u0061\\n\":\"\"}", b"{\"a\\n\":\"\"}"),
-    ];
-    for (text, expected) in table {
-        let told = outcome(rt.alloc(), text)?;
-        assert_eq!(rt; told.as_slice(), expected);
+    for row in VALUES.lines() {
+        let (text, want) = row.split_once(" | ").unwrap_or_default();
+        assert!(rt;
+            is_read(rt.alloc(), text.as_bytes(), want.as_bytes())?,
+            "{row}"
+        );
     }
+    assert!(rt; is_read(rt.alloc(), b"\t\n\r null \t\n\r", b"null")?);
+    assert!(rt;
+        is_read(
+            rt.alloc(),
+            b"\"\\u0000\\u001F\\u007f\"",
+            b"\"\\u0000\\u001f\x7f\""
+        )?
+    );
     Ok(())
 }
 
+fn is_refused(alloc: Global, text: &[u8]) -> Result<bool, AllocError> {
+    is_read(alloc, text, b"not json")
+}
+
+// the empty text first
+const NO_JSON: &str = r#"
+1 2
+{}]
+[1,]
+{"a":1,}
+{"a"}
+[1
+nul
+'a'
+01
++1
+1.
+1e999
+"\x"
+"\ud83d"
+"\ude00""#;
+
 #[test]
 fn refuses_what_is_no_json(rt: HostRuntime) -> Result<(), Fail> {
-    let table: [&[u8]; 20] = [
-        b"",
-        b" ",
-        b"1 2",
-        b"{}]",
-        b"[1,]",
-        b"{\"a\":1,}",
-        b"{\"a\"}",
-        b"[1",
-        b"nul",
-        b"'a'",
-        b"01",
-        b"+1",
-        b"1.",
-        b"1e999",
-        b"\"\x1f\"",
-        b"\"\\x\"",
-        b"\"\\ud83d\"",
-        b"\"\\ude00\"",
-        b"\"\xff\"",
-        b"\xef\xbb\xbf1",
-    ];
-    for text in table {
-        let told = outcome(rt.alloc(), text)?;
-        assert_eq!(rt; told.as_slice(), b"not json".as_slice());
+    for text in NO_JSON.lines() {
+        assert!(rt; is_refused(rt.alloc(), text.as_bytes())?, "{text}");
     }
+    assert!(rt; is_refused(rt.alloc(), b" ")?);
+    assert!(rt; is_refused(rt.alloc(), b"\"\x1f\"")?);
+    assert!(rt; is_refused(rt.alloc(), b"\"\xff\"")?);
+    assert!(rt; is_refused(rt.alloc(), b"\xef\xbb\xbf1")?);
     Ok(())
+}
+
+// A list in a list in a list, this often.
+fn nested(alloc: Global, depth: usize) -> Result<Row<u8>, AllocError> {
+    let mut text = Row::new(alloc);
+    for _ in 0..depth {
+        text.push(b'[')?;
+    }
+    for _ in 0..depth {
+        text.push(b']')?;
+    }
+    Ok(text)
 }
 
 #[test]
 fn nests(rt: HostRuntime) -> Result<(), Fail> {
-    for (depth, is_read) in [(127, true), (128, false)] {
-        let mut text = Row::new(rt.alloc());
-        for _ in 0..depth {
-            text.push(b'[')?;
-        }
-        for _ in 0..depth {
-            text.push(b']')?;
-        }
-        let told = outcome(rt.alloc(), text.as_slice())?;
-        assert_eq!(rt; told.as_slice() == text.as_slice(), is_read);
-    }
+    let most = nested(rt.alloc(), 127)?;
+    assert!(rt; is_read(rt.alloc(), most.as_slice(), most.as_slice())?);
+    let more = nested(rt.alloc(), 128)?;
+    assert!(rt; is_refused(rt.alloc(), more.as_slice())?);
     Ok(())
 }
 
-fn place(alloc: Global, first: Step, second: Option<Step>) -> Result<Place, Fail> {
-    let place = Place {
-        steps: Row::new(alloc),
-    };
-    let place = place.below(first)?;
-    match second {
-        Some(step) => Ok(place.below(step)?),
-        None => Ok(place),
+fn step_of(alloc: Global, word: &str) -> Result<Step, AllocError> {
+    match word.parse::<u64>() {
+        Ok(at) => Ok(Step::At(at)),
+        Err(_) => Ok(Step::Name(Text::of(alloc, word)?)),
     }
 }
+
+// The place of this pointer, where a word that is a number is a position.
+fn place_of(alloc: Global, pointer: &str) -> Result<Place, AllocError> {
+    let mut place = Place {
+        steps: Row::new(alloc),
+    };
+    for word in pointer.split('/').skip(1) {
+        place = place.below(step_of(alloc, word)?)?;
+    }
+    Ok(place)
+}
+
+fn order_of(alloc: Global, a: &str, b: &str) -> Result<Ordering, AllocError> {
+    let a = place_of(alloc, a)?;
+    let b = place_of(alloc, b)?;
+    Ok(place_order(&a, &b))
+}
+
+fn is_told(alloc: Global, text: &str) -> Result<bool, AllocError> {
+    let place = place_of(alloc, text)?;
+    Ok(pointer(alloc, &place)?.as_str() == text)
+}
+
+// the root first
+const PLACES: &str = "
+/2
+/2/
+/10
+/Z
+/a/0
+/aa";
 
 #[test]
 fn orders_places(rt: HostRuntime) -> Result<(), Fail> {
-    let alloc = rt.alloc();
-    let root = Place {
-        steps: Row::new(alloc),
-    };
-    let in_order = [
-        root,
-        place(alloc, Step::At(2), None)?,
-        place(alloc, Step::At(2), Some(Step::Name(Text::of(alloc, "")?)))?,
-        place(alloc, Step::At(10), None)?,
-        place(alloc, Step::Name(Text::of(alloc, "Z")?), None)?,
-        place(alloc, Step::Name(Text::of(alloc, "a")?), Some(Step::At(0)))?,
-        place(alloc, Step::Name(Text::of(alloc, "aa")?), None)?,
-    ];
-    for (i, a) in in_order.iter().enumerate() {
-        for (j, b) in in_order.iter().enumerate() {
-            assert_eq!(rt; place_order(a, b), i.cmp(&j), "{i} and {j}");
+    for (i, a) in PLACES.lines().enumerate() {
+        for (j, b) in PLACES.lines().enumerate() {
+            assert_eq!(rt; order_of(rt.alloc(), a, b)?, i.cmp(&j), "{a} and {b}");
         }
+        assert!(rt; is_told(rt.alloc(), a)?, "{a}");
     }
-    assert_eq!(rt; place_order(&in_order[0], &in_order[1]), Ordering::Less);
-    assert_eq!(rt; pointer(alloc, &in_order[2])?.as_str(), "/2/");
     Ok(())
 }
 
-// Each call that takes memory succeeds where there is some.
-#[test]
-fn makes_and_copies(rt: HostRuntime) -> Result<(), Fail> {
-    let alloc = rt.alloc();
+fn rows_change(alloc: Global) -> Result<bool, AllocError> {
+    let mut items = Row::of(alloc, &[2u8])?;
+    items.insert(0, 1)?;
+    items.replace(1, 3);
+    Ok(items.as_slice() == [1, 3].as_slice())
+}
+
+fn keys_are_copied(alloc: Global) -> Result<bool, AllocError> {
+    let key = Key {
+        side: Side::Object,
+        name: Text::of(alloc, "user")?,
+    };
+    let copy = key.try_clone()?;
+    Ok(copy.to_text()?.as_str() == "object:user")
+}
+
+fn trees_are_made(alloc: Global) -> Result<bool, Fail> {
     let mut members = Row::new(alloc);
     members.push(Member {
         name: Text::of(alloc, "b")?,
         value: Tree::Whole(7),
     })?;
-    let mut items = Row::of(alloc, &[2u8])?;
-    items.insert(0, 1)?;
-    items.replace(1, 3);
-    assert_eq!(rt; items.as_slice(), [1, 3].as_slice());
-    let key = Key {
-        side: Side::Object,
-        name: Text::of(alloc, "user")?,
-    };
-    assert_eq!(rt; key.try_clone()?.to_text()?.as_str(), "object:user");
     let tree = read(alloc, b"{\"b\":7}")?;
-    assert!(rt; is_same(&tree, &Tree::Members(members)));
+    Ok(is_same(&tree, &Tree::Members(members)))
+}
+
+fn trees_are_shared(alloc: Global) -> Result<bool, Fail> {
+    let tree = read(alloc, b"{\"b\":7}")?;
     let shared = Shared::new(alloc, tree.copy()?)?.try_clone()?;
-    assert!(rt; is_same(&tree, shared.get()));
-    let quoted = quote(alloc, "\"")?;
-    assert_eq!(rt; quoted.as_slice(), b"\"\\\"\"".as_slice());
-    match tree.at("b") {
-        Some(Tree::Whole(7)) => Ok(()),
-        _ => Err("no b".into()),
-    }
+    Ok(is_same(&tree, shared.get()) && matches!(tree.at("b"), Some(Tree::Whole(7))))
+}
+
+fn is_quoted(alloc: Global, text: &str, want: &str) -> Result<bool, AllocError> {
+    Ok(quote(alloc, text)?.as_slice() == want.as_bytes())
+}
+
+// Each call that takes memory succeeds where there is some.
+#[test]
+fn makes_and_copies(rt: HostRuntime) -> Result<(), Fail> {
+    assert!(rt; rows_change(rt.alloc())?);
+    assert!(rt; keys_are_copied(rt.alloc())?);
+    assert!(rt; trees_are_made(rt.alloc())?);
+    assert!(rt; trees_are_shared(rt.alloc())?);
+    assert!(rt; is_quoted(rt.alloc(), "\"", "\"\\\"\"")?);
+    Ok(())
 }
