@@ -42,13 +42,17 @@ fn compiled<L: Ledger>(alloc: Global, blank: Blank, bundle: &Bundle) -> Result<S
     }
 }
 
+fn outcome(alloc: Global, bundle: &Bundle) -> Result<String, Fail> {
+    compiled::<Brand>(alloc, Blank::new(1), bundle)
+}
+
 // A row is an edit on no files and what its bundle comes to.
 fn check(rt: &impl Abort, alloc: Global, row: &str) -> Result<(), Fail> {
     let mut fields = row.splitn(2, " | ");
     let edit = fields.next().unwrap_or_default();
     let want = fields.next().unwrap_or_default();
     let bundle = bundle_of(alloc, edit)?;
-    let found = compiled::<Brand>(alloc, Blank::new(1), &bundle)?;
+    let found = outcome(alloc, &bundle)?;
     assert_eq!(rt;
         found.as_str().strip_suffix("\n"),
         Some(want),
