@@ -3,7 +3,6 @@ pub mod EntryTables
 pub mod Faultless
 pub mod FilesByName
 pub mod FilterMaps
-pub mod FirstForms
 pub mod Givens
 pub mod LeastParts
 pub mod LeastTrees

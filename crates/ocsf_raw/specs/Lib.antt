@@ -1,7 +1,6 @@
 pub mod Names
 pub mod Forms
 pub mod Members
-pub mod FirstForm
 pub mod What
 pub mod Wanted
 pub mod Least
