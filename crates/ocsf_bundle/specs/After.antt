@@ -37,6 +37,11 @@ file_of_form path tree form = record { path = path; text = text tree; raw = cont
 abbrev pub stored_file : List ℕ → Tree → Option StoredFile
 stored_file path tree = option_map (file_of_form path tree) (form_of path)
 
+-- what is made of a tree at a path: the file, or why the tree is none
+abbrev pub IsStoredAs : List ℕ → Tree → Result StoredFile RawError → Type 0
+IsStoredAs path tree (Ok file) = IsShape path tree (Ok file.raw) × (stored_file path tree ≡ Some file)
+IsStoredAs path tree (Err e) = IsShape path tree (Err e)
+
 -- of files: a put says that this one stands at its path, a removal that none does
 abbrev pub file_said : Change → Option (Option StoredFile)
 file_said (change.Put path tree) = Some (stored_file path tree)

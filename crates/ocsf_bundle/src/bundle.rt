@@ -89,7 +89,7 @@ impl Bundle {
     }
 
     /// The bundle of these files and enabled extensions.
-    fn of(
+    pub fn of(
         alloc: Global,
         files: Row<Shared<StoredFile>>,
         enabled: Row<Text>,

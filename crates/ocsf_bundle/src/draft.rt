@@ -9,8 +9,8 @@ ghost use Rattle.ocsf_bundle.specs.After.{said_of, file_said, name_said, enabled
 use crate::edit::Change;
 use crate::named_map::{map_of, put_item, take_item, values_in};
 use crate::stored::StoredFile;
-use ocsf_raw::{RawError, shape};
-use ocsf_tree::{Code, Fault, Row, Shared, Text, Tree, print};
+use ocsf_raw::RawError;
+use ocsf_tree::{Code, Fault, Row, Shared, Text, Tree};
 use std::alloc::{AllocError, Global};
 use std::collections::BTreeMap;
 
@@ -25,16 +25,7 @@ fn put_file(
     ensures after { OnOk result ((q : List ℕ) → get text_cmp files.new q ≡ unwrap_or (said_of stored_path file_said q (Change.Put path.now tree.now)) (get text_cmp files.old q)) }
     ensures ordered { OnOk result (AreValuesSound files.old → AreValuesSound files.new) }
 {
-    let raw = shape(alloc, path.as_str(), tree)?;
-    let text = print(alloc, tree)?;
-    let file = Shared::new(
-        alloc,
-        StoredFile {
-            path: path.copy()?,
-            text,
-            raw,
-        },
-    )?;
+    let file = Shared::new(alloc, StoredFile::of(alloc, path, tree)?)?;
     put_item(files, path.copy()?, file)?;
     Ok(())
 }

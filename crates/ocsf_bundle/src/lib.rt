@@ -28,6 +28,7 @@ pub use bundle::Bundle;
 pub use cells::{Cell, Part};
 pub use edit::{Change, Edit, edit_of};
 pub use edit_laws::edits_read_one_way;
+pub use faults::lesser_of;
 pub use laws::{cells_are_ordered, keys_are_those_of_items};
 pub use shows::Shows;
 pub use stored::StoredFile;

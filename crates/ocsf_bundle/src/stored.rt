@@ -1,7 +1,11 @@
-ghost use Rattle.ocsf_bundle.specs.Stored.{stored_path};
+ghost use Rattle.std.specs.Prelude.{IfOk};
+ghost use Rattle.ocsf_tree.specs.Valid.{IsValid};
+ghost use Rattle.ocsf_bundle.specs.Stored.{stored_path, IsStoredSound};
+ghost use Rattle.ocsf_bundle.specs.After.{IsStoredAs};
 
-use ocsf_raw::RawFile;
-use ocsf_tree::{Named, Row, Shared, Text};
+use ocsf_raw::{RawError, RawFile, shape};
+use ocsf_tree::{Named, Row, Shared, Text, Tree, print};
+use std::alloc::Global;
 
 /// A file of a bundle: its path, its compact text, and what the text says.
 #[derive(Debug, Drop)]
@@ -9,6 +13,22 @@ pub struct StoredFile {
     pub path: Text,
     pub text: Row<u8>,
     pub raw: RawFile,
+}
+
+impl StoredFile {
+    /// The file that the tree makes at the path. The fault is that of [`shape`].
+    ///
+    /// [`shape`]: ocsf_raw::shape
+    pub fn of(alloc: Global, path: &Text, tree: &Tree) -> Result<StoredFile, RawError>
+        requires valid { IsValid tree.now }
+        ensures file { IsStoredAs path.now tree.now result }
+        ensures sound { IfOk result IsStoredSound }
+    {
+        let raw = shape(alloc, path.as_str(), tree)?;
+        let text = print(alloc, tree)?;
+        let path = path.copy()?;
+        Ok(StoredFile { path, text, raw })
+    }
 }
 
 impl Named for StoredFile {

@@ -3,13 +3,13 @@ ghost use Rattle.std.specs.Prelude.{◌≡◌, ◌++◌, IfOk, length, decimal, 
 ghost use Rattle.std.specs.Option.{option_or};
 ghost use Rattle.ocsf_tree.specs.LeastFault.{least_fault};
 ghost use Rattle.ocsf_schema.specs.Schema.{schema_text};
-ghost use Rattle.ocsf_bundle.specs.OwnFaults.{lesser_of};
 ghost use Rattle.ocsf_item.specs.SchemaFaults.{comes_before};
 ghost use Rattle.ocsf_item.specs.ItemFaults.{fault};
 ghost use Rattle.ocsf_compiler.specs.Building.{is_taken_in, clash_of, clash_in, large_fault};
 
+use ocsf_bundle::lesser_of;
 use ocsf_schema::{Item, Piece, Schema};
-use ocsf_tree::{Code, Fault, Key, Shared, Text, lesser_fault};
+use ocsf_tree::{Code, Fault, Key, Shared, Text};
 use std::alloc::{AllocError, Global};
 use std::cmp::Ordering;
 
@@ -65,16 +65,6 @@ fn clash_in(alloc: Global, schema: &Schema, item: &Item) -> Result<Option<Fault>
     match item.class_uid {
         Some(number) => clash_of(alloc, schema, item, number),
         None => Ok(None),
-    }
-}
-
-/// The lesser of the least fault so far and one that there may be besides.
-fn lesser_of(least: Option<Fault>, fault: Option<Fault>) -> Option<Fault>
-    ensures { result ≡ lesser_of least fault }
-{
-    match fault {
-        Some(fault) => lesser_fault(least, fault),
-        None => least,
     }
 }
 
