@@ -1,7 +1,7 @@
-//! Runs the command that the words name, over the standard streams.
+//! Runs the command that the words name, over the standard streams and the file system.
 #![tactic(auto)]
 
-use ocsf_edge::{Kept, Seq, StdSink, StdSource, SureFolder, SureKeeper};
+use ocsf_edge::{DirFolder, Kept, Seq, StdSink, StdSource, SureKeeper};
 use ocsf_tool::{Status, run};
 use ocsf_tree::{Row, Text};
 use std::alloc::{AllocError, Global};
@@ -39,7 +39,7 @@ fn main(rt: HostRuntime) -> ExitCode {
     };
     let mut source = StdSource::new(rt.reader());
     let mut sink = StdSink::new(io::writer(&rt));
-    let mut folder = SureFolder::new(Seq::new(alloc));
+    let mut folder = DirFolder::new(&rt);
     let mut keeper = no_store(alloc);
     let status = run(
         alloc,

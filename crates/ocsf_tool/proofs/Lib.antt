@@ -1,5 +1,4 @@
-pub mod FileSets
-pub mod CompiledParts
-pub mod LeastFaults
+pub mod Judged
 pub mod Nothing
-pub mod LastPuts
+pub mod FormedPaths
+pub mod FolderReads

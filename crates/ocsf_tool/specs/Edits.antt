@@ -1,5 +1,5 @@
 -- The command `edits`: what each line is answered, and what it leaves.
-use Rattle.std.specs.Prelude.{◌≡◌, ℕ, ◌+◌, ◌==◌, List, [], ◌∷◌, ◌++◌, Bool, if◌then◌else◌, codes, pos, is_err, Option, Some, None, Result, Ok, Err}
+use Rattle.std.specs.Prelude.{◌≡◌, ℕ, ◌+◌, ◌≤◌, ◌<◌, ◌^◌, List, [], ◌∷◌, ◌++◌, length, Bool, codes, pos, is_err, Some, None, Result, Ok, Err}
 use Rattle.ocsf_tree.specs.declared.tree.Tree.{Tree}
 use Rattle.ocsf_tree.specs.declared.tree.Tree.TheVariants as tree
 use Rattle.ocsf_tree.specs.declared.tree.Member.{Member}
@@ -12,53 +12,76 @@ use Rattle.ocsf_tree.specs.Code.{code_text}
 use Rattle.ocsf_tree.specs.CompactText.{text}
 use Rattle.ocsf_tree.specs.Place.{pointer_text}
 use Rattle.ocsf_tree.specs.Reading.{IsReading}
-use Rattle.ocsf_raw.specs.declared.first_edit.FirstPut.{FirstPut}
-use Rattle.ocsf_raw.specs.FirstForm.{first_form_of}
+use Rattle.ocsf_raw.specs.declared.file_shape.RawError.{RawError}
+use Rattle.ocsf_raw.specs.declared.file_shape.RawError.TheVariants as error
+use Rattle.ocsf_schema.specs.Schema.{schema_text}
+use Rattle.ocsf_bundle.specs.declared.edit.Edit.{Edit}
+use Rattle.ocsf_bundle.specs.declared.edit.Change.{Change}
+use Rattle.ocsf_bundle.specs.Edits.{IsEdit}
+use Rattle.ocsf_bundle.specs.After.{IsAfter}
+use Rattle.ocsf_bundle.specs.Stored.{Stored}
+use Rattle.ocsf_item.specs.Compilation.{compilation}
+use Rattle.ocsf_item.specs.Judgement as item
 use Rattle.ocsf_lines.specs.Run.{Output, OutputFront, Replies}
-use Rattle.ocsf_tool.specs.Files.{FileSet, no_files, after_edit}
-use Rattle.ocsf_tool.specs.Compiled.{printed_schema}
-use Rattle.ocsf_tool.specs.Faults.{bundle_faults, least_fault}
 
--- what stands between two lines: the files, and how many edits were accepted
+-- what stands between two lines: the files with the enabled extensions, and how many edits were accepted
 pub record Edited : Type 0 where
-  pub files : FileSet
+  pub bundle : Stored
   pub revision : ℕ
 
+abbrev pub no_files : Stored
+no_files = record { files = []; enabled = [] }
+
 abbrev pub no_edits : Edited
-no_edits = record { files = no_files; revision = 0 }
+no_edits = record { bundle = no_files; revision = 0 }
 
 -- a fault of a line has no subject
 abbrev pub line_fault : Code → List ℕ → Fault
 line_fault code name = record { code = code; subject = []; name = name }
 
-abbrev pub last_revision : ℕ
-last_revision = 4294967295
+-- ---- how a line is judged
 
--- files that have no fault are accepted, unless the revisions have run out
-abbrev pub verdict : ℕ → FileSet → Option Fault → Result FileSet Fault
-verdict revision files (Some fault) = Err fault
-verdict revision files None = if revision == last_revision then Err (line_fault code.LastRevision (codes "4294967295")) else Ok files
+-- the changes are accepted, and leave this, exactly where their judgement finds no fault; or they are refused by it
+abbrev pub IsChangesOutcome : Edited → List Change → Result Stored Fault → Type 0
+IsChangesOutcome old changes (Ok new) = IsAfter old.bundle changes (Ok new) × item.IsJudgement old.bundle old.revision changes None
+IsChangesOutcome old changes (Err fault) = item.IsJudgement old.bundle old.revision changes (Some fault)
 
--- an edit leaves these files, or is refused by this fault
-abbrev pub judged_files : ℕ → FileSet → Result FileSet Fault
-judged_files revision files = verdict revision files (least_fault (bundle_faults files))
+-- of what a tree says
+abbrev pub IsSaidOutcome : Edited → Result Edit RawError → Result Stored Fault → Type 0
+IsSaidOutcome old (Ok edit) outcome = IsChangesOutcome old edit.changes outcome
+IsSaidOutcome old (Err (error.Fault fault)) outcome = outcome ≡ Err fault
+IsSaidOutcome old (Err error.Memory) outcome = ⊥
 
-abbrev pub judged_edit : Edited → Option (List FirstPut) → Result FileSet Fault
-judged_edit old None = Err (line_fault code.NotBuiltYet [])
-judged_edit old (Some edit) = judged_files old.revision (after_edit edit old.files)
+pub record IsTreeOutcome (old : Edited) (tree : Tree) (outcome : Result Stored Fault) : Type 0 where
+  pub said : Result Edit RawError
+  pub says : IsEdit tree said
+  pub judged : IsSaidOutcome old said outcome
 
--- the same of a line that reads so
-abbrev pub IsJudgementOf : Edited → Result Tree TreeError → Result FileSet Fault → Type 0
-IsJudgementOf old (Ok edit) outcome = outcome ≡ judged_edit old (first_form_of edit)
-IsJudgementOf old (Err NotJson) outcome = outcome ≡ Err (line_fault code.NotJson [])
-IsJudgementOf old (Err (NumberNotWhole place)) outcome = outcome ≡ Err (line_fault code.NumberNotWhole (pointer_text place.steps))
-IsJudgementOf old (Err Memory) outcome = ⊥
+-- of what a line reads as
+abbrev pub IsReadOutcome : Edited → Result Tree TreeError → Result Stored Fault → Type 0
+IsReadOutcome old (Ok tree) outcome = IsTreeOutcome old tree outcome
+IsReadOutcome old (Err NotJson) outcome = outcome ≡ Err (line_fault code.NotJson [])
+IsReadOutcome old (Err (NumberNotWhole place)) outcome = outcome ≡ Err (line_fault code.NumberNotWhole (pointer_text place.steps))
+IsReadOutcome old (Err Memory) outcome = ⊥
 
--- the same of a line
-pub record IsJudgement (old : Edited) (line : List ℕ) (outcome : Result FileSet Fault) : Type 0 where
+pub record IsLineOutcome (old : Edited) (line : List ℕ) (outcome : Result Stored Fault) : Type 0 where
   pub reading : Result Tree TreeError
   pub reads : IsReading line reading
-  pub judged : IsJudgementOf old reading outcome
+  pub judged : IsReadOutcome old reading outcome
+
+-- the longest line of an edit: 16 MiB
+abbrev pub max_edit : ℕ
+max_edit = 2 ^ 24
+
+abbrev pub too_long : Fault
+too_long = line_fault code.Limit (codes "edit")
+
+-- a longer line is refused unread
+pub record IsJudgement (old : Edited) (line : List ℕ) (outcome : Result Stored Fault) : Type 0 where
+  pub long : max_edit < length line → outcome ≡ Err too_long
+  pub short : length line ≤ max_edit → IsLineOutcome old line outcome
+
+-- ---- the reply, and what is left
 
 abbrev member : List ℕ → Tree → Member
 member name value = record { name = name; value = value }
@@ -77,25 +100,26 @@ fault_tree fault =
 abbrev pub refused_tree : Fault → Tree
 refused_tree fault = tree.Members (member (codes "refused") (fault_tree fault) ∷ [])
 
-abbrev pub reply_tree : ℕ → Result FileSet Fault → Tree
-reply_tree revision (Ok files) = accepted_tree (revision + 1)
+abbrev pub reply_tree : ℕ → Result Stored Fault → Tree
+reply_tree revision (Ok new) = accepted_tree (revision + 1)
 reply_tree revision (Err fault) = refused_tree fault
 
 -- a refused line leaves all as it was
-abbrev pub after_line : Edited → Result FileSet Fault → Edited
-after_line old (Ok files) = record { files = files; revision = old.revision + 1 }
+abbrev pub after_line : Edited → Result Stored Fault → Edited
+after_line old (Ok new) = record { bundle = new; revision = old.revision + 1 }
 after_line old (Err fault) = old
 
 -- A line is judged at the files and the revision before it; the reply says how, and the next line comes after what was accepted.
 pub record EditStep (old : Edited) (line reply : List ℕ) (is_refused : Bool) (new : Edited) : Type 0 where
-  pub outcome : Result FileSet Fault
+  pub outcome : Result Stored Fault
   pub judged : IsJudgement old line outcome
   pub replied : reply ≡ text (reply_tree old.revision outcome) ++ 10 ∷ []
   pub refused : is_refused ≡ is_err outcome
   pub left : new ≡ after_line old outcome
 
+-- the schema that the accepted files are compiled to; no earlier compilation plays a part
 abbrev pub edits_print : Edited → List ℕ
-edits_print edited = printed_schema edited.files
+edits_print edited = schema_text (compilation edited.bundle)
 
 -- The whole output of `edits` over these bytes: a reply to each line, and then the printed schema. Tells whether a line was refused.
 abbrev pub EditsOutput : List ℕ → List ℕ → Bool → Type 0

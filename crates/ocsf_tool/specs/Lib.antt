@@ -1,8 +1,8 @@
-pub mod Files
-pub mod Compiled
-pub mod Faults
 pub mod Edits
+pub mod Judging
 pub mod Outcomes
 pub mod ExitCodes
 pub mod Commands
 pub mod Answered
+pub mod Folders
+pub mod FolderParts

@@ -1,12 +1,12 @@
 -- How the code tells a judgement.
 use Rattle.std.specs.Prelude.{◌≡◌, ℕ, ◌+◌, Result, Ok, Err, ⊤}
 use Rattle.ocsf_tree.specs.declared.fault.Fault.{Fault}
+use Rattle.ocsf_bundle.specs.Stored.{Stored}
 use Rattle.ocsf_tool.specs.declared.outcome.Outcome.{Outcome}
 use Rattle.ocsf_tool.specs.declared.outcome.Outcome.TheVariants.{Accepted, Refused}
-use Rattle.ocsf_tool.specs.Files.{FileSet}
 
-abbrev pub outcome_of : Outcome → Result FileSet Fault
-outcome_of (Accepted compilation) = Ok compilation.files
+abbrev pub outcome_of : Outcome → Result Stored Fault
+outcome_of (Accepted compilation) = Ok compilation.bundle
 outcome_of (Refused fault) = Err fault
 
 -- what was accepted has the next revision

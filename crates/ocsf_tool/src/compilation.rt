@@ -1,41 +1,86 @@
-// Files with their schema, after so many edits.
-ghost use Rattle.std.specs.Prelude.{◌≡◌, IfOk};
-ghost use Rattle.ocsf_tool.specs.Compiled.{compiled};
-ghost use Rattle.ocsf_tool.specs.Files.{no_files};
+// A bundle with its schema, after so many edits.
+ghost use Rattle.std.specs.Prelude.{◌≡◌, None, IfOk, IfErr, OnOk};
+ghost use Rattle.ocsf_item.specs.Compilation.{IsCompilation};
+ghost use Rattle.ocsf_item.specs.Verdict.{IsVerdict};
+ghost use Rattle.ocsf_compiler.specs.Compiles.{IsRefusedFor};
+ghost use Rattle.ocsf_tool.specs.Edits.{no_files};
 
-use crate::compile::compile;
-use crate::files::Files;
-use ocsf_schema::Schema;
+use ocsf_bundle::Bundle;
+use ocsf_compiler::{CompileError, compile, parts_of, types_of};
+use ocsf_schema::{Schema, Steps};
+use ocsf_tree::Row;
 use std::alloc::{AllocError, Global};
+use std::marker::Brand;
+use std::sync::ledger::{Blank, Ledger};
 
-/// Files with the schema that they compile to, and how many edits led to them.
+/// A bundle with the schema that it is compiled to, and how many edits led to it.
 #[derive(Drop)]
 pub struct Compilation {
-    pub files: Files,
+    pub bundle: Bundle,
     pub schema: Schema,
     pub revision: u32,
-    pub ghost from_scratch: { schema ≡ compiled files },
+    pub ghost from_scratch: { IsCompilation bundle schema },
+}
+
+fn counted<L: Ledger>(alloc: Global, bundle: &Bundle, blank: Blank) -> Result<Schema, CompileError>
+    requires name { blank.name ≡ L.name }
+    requires parts { blank.parts ≡ L.parts }
+    requires one { blank.parts ≡ 1 }
+    ensures schema { IfOk result (IsCompilation bundle.now) }
+    ensures clean { OnOk result (IsVerdict bundle.now None) }
+    ensures refused { IfErr result (IsRefusedFor bundle.now) }
+{
+    let mut steps: Steps<L> = Steps::open(blank);
+    compile(alloc, bundle, &mut steps)
+}
+
+/// The schema of the bundle. Its steps are counted by nobody.
+pub fn schema_of(alloc: Global, bundle: &Bundle) -> Result<Schema, CompileError>
+    ensures schema { IfOk result (IsCompilation bundle.now) }
+    ensures clean { OnOk result (IsVerdict bundle.now None) }
+    ensures refused { IfErr result (IsRefusedFor bundle.now) }
+{
+    counted::<Brand>(alloc, bundle, Blank::new(1))
+}
+
+/// The schema of no files, which has no items.
+fn schema_of_no_files(alloc: Global, bundle: &Bundle) -> Result<Schema, AllocError>
+    requires files { bundle.now ≡ no_files }
+    ensures schema { IfOk result (IsCompilation bundle.now) }
+{
+    let types = types_of(alloc, bundle)?;
+    let parts = parts_of(alloc, bundle, types.as_slice(), Row::new(alloc))?;
+    let schema = Schema::of(alloc, parts)?;
+    Ok(schema)
 }
 
 impl Compilation {
-    /// No files, after no edit.
-    pub fn empty(alloc: Global) -> Result<Compilation, AllocError>
-        ensures files { IfOk result (λ made. made.files ≡ no_files) }
-        ensures revision { IfOk result (λ made. made.revision ≡ 0) }
-    {
-        Compilation::of(alloc, Files::empty(alloc), 0)
-    }
-
-    /// These files, compiled from scratch.
-    pub fn of(alloc: Global, files: Files, revision: u32) -> Result<Compilation, AllocError>
-        ensures files { IfOk result (λ made. made.files ≡ files) }
+    /// The bundle, compiled from scratch.
+    pub fn of(alloc: Global, bundle: Bundle, revision: u32) -> Result<Compilation, CompileError>
+        ensures bundle { IfOk result (λ made. made.bundle ≡ bundle) }
         ensures revision { IfOk result (λ made. made.revision ≡ revision) }
+        ensures clean { OnOk result (IsVerdict bundle None) }
+        ensures refused { IfErr result (IsRefusedFor bundle) }
     {
-        let schema = compile(alloc, &files)?;
+        let schema = schema_of(alloc, &bundle)?;
         Ok(Compilation {
-            files,
+            bundle,
             schema,
             revision,
+        })
+    }
+
+    /// No files, after no edit.
+    pub fn empty(alloc: Global) -> Result<Compilation, AllocError>
+        ensures bundle { IfOk result (λ made. made.bundle ≡ no_files) }
+        ensures revision { IfOk result (λ made. made.revision ≡ 0) }
+    {
+        let bundle = Bundle::empty(alloc);
+        let schema = schema_of_no_files(alloc, &bundle)?;
+        Ok(Compilation {
+            bundle,
+            schema,
+            revision: 0,
         })
     }
 }

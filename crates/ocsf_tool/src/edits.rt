@@ -1,12 +1,10 @@
 // The command `edits`: an edit a line.
-ghost use Rattle.std.specs.Prelude.{◌≡◌, ◌+◌, ◌^◌, IfOk};
-ghost use Rattle.std.proofs.Common.{arith, subst};
-ghost use Rattle.std.proofs.lemmas.List.{take_all};
-ghost use Rattle.ocsf_tool.specs.Edits.{Edited, EditStep, edits_print, no_edits};
-ghost use Rattle.ocsf_tool.specs.Answered.{some_step};
+ghost use Rattle.std.specs.Prelude.{◌≡◌, IfOk};
+ghost use Rattle.ocsf_tool.specs.Edits.{Edited, EditStep, edits_print, max_edit, no_edits};
+ghost use Rattle.ocsf_tool.specs.Answered.{some_step, step_by_front};
 
 use crate::compilation::Compilation;
-use crate::judgement::judge;
+use crate::judgement::{MOST_EDIT, judge};
 use crate::outcome::Outcome;
 use crate::replies::{accepted, refused};
 use ocsf_edge::{Failed, Sink};
@@ -35,16 +33,15 @@ impl Edits {
 impl LineMachine for Edits {
     ghost State = { Edited };
 
-    ghost state = { λ edits. record { files = edits.now.files; revision = edits.now.revision } };
+    ghost state = { λ edits. record { bundle = edits.now.bundle; revision = edits.now.revision } };
 
     ghost Step = { EditStep };
 
     ghost print = { edits_print };
 
-    // A line may be as long as a run.
-    const MOST: usize = 1 << 40;
+    const MOST: usize = MOST_EDIT;
 
-    ghost MOST = { 2 ^ 40 };
+    ghost MOST = { max_edit };
 
     fn answer(&mut self, line: &[u8]) -> Result<Reply, AllocError> {
         match judge(self.alloc, &self.now, line)? {
@@ -69,5 +66,5 @@ impl LineMachine for Edits {
 
     ghost answers = { some_step };
 
-    ghost by_front = { λ old line reply flawed new within step. subst (λ l. EditStep old l reply flawed new) (take_all (2 ^ 40 + 1) line (Prim.omega arith)) step };
+    ghost by_front = { λ old line reply flawed new within step. step_by_front old line reply flawed new step };
 }

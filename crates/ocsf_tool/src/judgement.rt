@@ -1,74 +1,146 @@
 // A line is judged.
-ghost use Rattle.std.specs.Prelude.{◌≡◌, IfOk};
-ghost use Rattle.ocsf_tool.specs.Edits.{IsJudgement, line_fault, judged_files, judged_edit};
-ghost use Rattle.ocsf_raw.specs.FirstForm.{first_form_of};
+ghost use Rattle.std.specs.Prelude.{◌≡◌, Err, All, IfOk};
 ghost use Rattle.ocsf_tree.specs.Valid.{IsValid};
+ghost use Rattle.ocsf_bundle.specs.Edits.{IsValidChange};
+ghost use Rattle.ocsf_item.specs.Judgement.{last_revision};
+ghost use Rattle.ocsf_item.specs.Verdict.{IsVerdict};
+ghost use Rattle.ocsf_tool.specs.Edits.{IsChangesOutcome, IsTreeOutcome, IsLineOutcome, IsJudgement, line_fault};
+ghost use Rattle.ocsf_tool.specs.Judging.{IsBundleOutcome};
 ghost use Rattle.ocsf_tool.specs.Outcomes.{outcome_of, NumbersNext};
 
-use crate::compilation::Compilation;
-use crate::faults::fault_of;
-use crate::files::Files;
+use crate::compilation::{Compilation, schema_of};
 use crate::outcome::Outcome;
-use ocsf_raw::first_form;
+use ocsf_bundle::{Bundle, Edit, edit_of};
+use ocsf_compiler::CompileError;
+use ocsf_raw::RawError;
 use ocsf_tree::{Code, Fault, Text, Tree, TreeError, pointer, read};
 use std::alloc::{AllocError, Global};
 
+/// The most bytes of an edit's line.
+pub const MOST_EDIT: usize = 1 << 24;
+
+/// A fault without a subject.
 fn line_fault_of(alloc: Global, code: Code, name: Text) -> Result<Fault, AllocError>
     ensures { IfOk result (λ fault. fault ≡ line_fault code name) }
 {
+    let subject = Text::of(alloc, "")?;
     Ok(Fault {
         code,
-        subject: Text::of(alloc, "")?,
+        subject,
         name,
     })
 }
 
-/// Judges the files that an edit would leave, at the revision before it.
-fn judge_files(alloc: Global, files: Files, revision: u32) -> Result<Outcome, AllocError>
-    ensures outcome { IfOk result (λ outcome. outcome_of outcome ≡ judged_files revision files) }
+/// The verdict on a bundle.
+fn verdict_on(alloc: Global, bundle: &Bundle) -> Result<Option<Fault>, AllocError>
+    ensures { IfOk result (λ verdict. IsVerdict bundle.now verdict) }
+{
+    let refusal = schema_of(alloc, bundle).err();
+    match refusal {
+        None => Ok(None),
+        Some(CompileError::Fault(fault)) => Ok(Some(fault)),
+        Some(CompileError::Memory) => Err(AllocError),
+    }
+}
+
+/// Why the bundle isn't accepted where no revision is left: its own fault comes first.
+fn last_fault(alloc: Global, bundle: &Bundle) -> Result<Fault, AllocError>
+    ensures { IfOk result (λ fault. IsBundleOutcome last_revision bundle.now (Err fault)) }
+{
+    if let Some(fault) = verdict_on(alloc, bundle)? {
+        return Ok(fault);
+    }
+    let name = Text::of(alloc, "4294967295")?;
+    let fault = line_fault_of(alloc, Code::LastRevision, name)?;
+    Ok(fault)
+}
+
+/// Judges the bundle that an edit would leave, at the revision before it.
+fn judge_bundle(alloc: Global, bundle: Bundle, revision: u32) -> Result<Outcome, AllocError>
+    ensures outcome { IfOk result (λ outcome. IsBundleOutcome revision bundle (outcome_of outcome)) }
     ensures next { IfOk result (NumbersNext revision) }
 {
-    if let Some(fault) = fault_of(alloc, &files)? {
+    if revision == u32::MAX {
+        let fault = last_fault(alloc, &bundle)?;
         return Ok(Outcome::Refused(fault));
     }
-    if revision == u32::MAX {
-        let name = Text::of(alloc, "4294967295")?;
-        return Ok(Outcome::Refused(line_fault_of(alloc, Code::LastRevision, name)?));
+    match Compilation::of(alloc, bundle, revision + 1) {
+        Ok(next) => Ok(Outcome::Accepted(next)),
+        Err(CompileError::Fault(fault)) => Ok(Outcome::Refused(fault)),
+        Err(CompileError::Memory) => Err(AllocError),
     }
-    Ok(Outcome::Accepted(Compilation::of(alloc, files, revision + 1)?))
 }
 
-/// Judges an edit.
-fn judge_edit(alloc: Global, now: &Compilation, edit: &Tree) -> Result<Outcome, AllocError>
-    requires { IsValid edit.now }
-    ensures outcome { IfOk result (λ outcome. outcome_of outcome
-        ≡ judged_edit (record { files = now.now.files; revision = now.now.revision }) (first_form_of edit.now)) }
+/// Judges the changes of an edit.
+fn judge_edit(alloc: Global, now: &Compilation, edit: &Edit) -> Result<Outcome, AllocError>
+    requires { All IsValidChange edit.now.changes }
+    ensures outcome { IfOk result (λ outcome. IsChangesOutcome (record { bundle = now.now.bundle; revision = now.now.revision })
+        edit.now.changes (outcome_of outcome)) }
     ensures next { IfOk result (NumbersNext now.now.revision) }
 {
-    let Some(edit) = first_form(alloc, edit)? else {
-        let name = Text::of(alloc, "")?;
-        return Ok(Outcome::Refused(line_fault_of(alloc, Code::NotBuiltYet, name)?));
-    };
-    let files = now.files.after(alloc, edit)?;
-    judge_files(alloc, files, now.revision)
+    match now.bundle.after(edit) {
+        Ok(bundle) => {
+            let outcome = judge_bundle(alloc, bundle, now.revision)?;
+            Ok(outcome)
+        }
+        Err(RawError::Fault(fault)) => Ok(Outcome::Refused(fault)),
+        Err(RawError::Memory) => Err(AllocError),
+    }
 }
 
-/// Judges a line. What stands now stays as it is.
-pub fn judge(alloc: Global, now: &Compilation, line: &[u8]) -> Result<Outcome, AllocError>
-    ensures judgement { IfOk result (λ outcome. IsJudgement (record { files = now.now.files; revision = now.now.revision })
+/// Judges a tree as an edit.
+fn judge_tree(alloc: Global, now: &Compilation, tree: &Tree) -> Result<Outcome, AllocError>
+    requires { IsValid tree.now }
+    ensures outcome { IfOk result (λ outcome. IsTreeOutcome (record { bundle = now.now.bundle; revision = now.now.revision })
+        tree.now (outcome_of outcome)) }
+    ensures next { IfOk result (NumbersNext now.now.revision) }
+{
+    match edit_of(alloc, tree) {
+        Ok(edit) => {
+            let outcome = judge_edit(alloc, now, &edit)?;
+            Ok(outcome)
+        }
+        Err(RawError::Fault(fault)) => Ok(Outcome::Refused(fault)),
+        Err(RawError::Memory) => Err(AllocError),
+    }
+}
+
+/// Judges a line that isn't too long.
+fn judge_text(alloc: Global, now: &Compilation, line: &[u8]) -> Result<Outcome, AllocError>
+    ensures outcome { IfOk result (λ outcome. IsLineOutcome (record { bundle = now.now.bundle; revision = now.now.revision })
         line.now (outcome_of outcome)) }
     ensures next { IfOk result (NumbersNext now.now.revision) }
 {
     match read(alloc, line) {
-        Ok(edit) => judge_edit(alloc, now, &edit),
+        Ok(tree) => {
+            let outcome = judge_tree(alloc, now, &tree)?;
+            Ok(outcome)
+        }
         Err(TreeError::NotJson) => {
             let name = Text::of(alloc, "")?;
-            Ok(Outcome::Refused(line_fault_of(alloc, Code::NotJson, name)?))
+            let fault = line_fault_of(alloc, Code::NotJson, name)?;
+            Ok(Outcome::Refused(fault))
         }
         Err(TreeError::NumberNotWhole(place)) => {
             let name = pointer(alloc, &place)?;
-            Ok(Outcome::Refused(line_fault_of(alloc, Code::NumberNotWhole, name)?))
+            let fault = line_fault_of(alloc, Code::NumberNotWhole, name)?;
+            Ok(Outcome::Refused(fault))
         }
         Err(TreeError::Memory) => Err(AllocError),
     }
+}
+
+/// Judges a line. What stands now stays as it is.
+pub fn judge(alloc: Global, now: &Compilation, line: &[u8]) -> Result<Outcome, AllocError>
+    ensures judgement { IfOk result (λ outcome. IsJudgement (record { bundle = now.now.bundle; revision = now.now.revision })
+        line.now (outcome_of outcome)) }
+    ensures next { IfOk result (NumbersNext now.now.revision) }
+{
+    if line.len() > MOST_EDIT {
+        let name = Text::of(alloc, "edit")?;
+        let fault = line_fault_of(alloc, Code::Limit, name)?;
+        return Ok(Outcome::Refused(fault));
+    }
+    let outcome = judge_text(alloc, now, line)?;
+    Ok(outcome)
 }

@@ -3,16 +3,15 @@
 
 mod command;
 mod compilation;
-mod compile;
 mod edits;
-mod faults;
-mod files;
+mod edits_run;
+mod folder;
+mod folder_error;
+mod folder_run;
 mod judgement;
-mod laws;
 mod outcome;
 mod replies;
 mod status;
 
 pub use command::run;
-pub use laws::last_put_decides;
 pub use status::Status;

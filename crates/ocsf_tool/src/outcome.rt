@@ -5,7 +5,7 @@ use ocsf_tree::Fault;
 /// How a line was judged.
 #[derive(Drop)]
 pub enum Outcome {
-    /// The edit leaves these files.
+    /// The edit leaves this.
     Accepted(Compilation),
     Refused(Fault),
 }

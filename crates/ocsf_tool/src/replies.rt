@@ -9,7 +9,7 @@ use ocsf_tree::{Fault, Member, Row, Text, Tree, TryClone, print};
 use std::alloc::{AllocError, Global};
 
 /// A member of an object.
-pub fn member(alloc: Global, name: &str, value: Tree) -> Result<Member, AllocError>
+fn member(alloc: Global, name: &str, value: Tree) -> Result<Member, AllocError>
     ensures { IfOk result (λ made. made ≡ record { name = name.now; value = value }) }
 {
     Ok(Member {
