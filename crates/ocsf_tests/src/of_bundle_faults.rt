@@ -1,78 +1,47 @@
-ghost use Rattle.std.specs.Prelude.{All, IfOk};
-ghost use Rattle.ocsf_bundle.specs.Edits.{IsValidChange};
-
-use ocsf_bundle::{Bundle, Edit, edit_of};
-use ocsf_tree::{Fault, read};
+// Faults of the files as a whole, after edits.
+use crate::shared::{after, halves, is_fault, step};
+use ocsf_bundle::Bundle;
 use std::alloc::{AllocError, Global};
 use std::process::Abort;
 use std::test::Fail;
 
-// What is asked in a row of a table, and what is wanted.
-fn halves(row: &str) -> (&str, &str) {
-    match row.split_once(" => ") {
-        Some(halves) => halves,
-        None => (row, "no answer"),
+// Whether this is the least fault of the files.
+fn has_fault(bundle: &Bundle, want: &str) -> bool {
+    match bundle.own_fault() {
+        Ok(Some(fault)) => is_fault(&fault, want),
+        Ok(None) => want == "none",
+        Err(_) => false,
     }
 }
 
-fn push_word(line: &mut String, word: &str) -> Result<(), AllocError> {
-    line.push_str(word)?;
-    line.push(';')
-}
-
-fn fault_line(alloc: Global, fault: &Fault) -> Result<String, AllocError> {
-    let mut line = String::new(alloc);
-    push_word(&mut line, fault.code.as_str())?;
-    push_word(&mut line, fault.subject.as_str())?;
-    line.push_str(fault.name.as_str())?;
-    Ok(line)
-}
-
-// The least fault of the files, in a line.
-fn own_fault_line(alloc: Global, bundle: &Bundle) -> Result<String, AllocError> {
-    match bundle.own_fault()? {
-        Some(fault) => fault_line(alloc, &fault),
-        None => String::from_str(alloc, "none"),
-    }
-}
-
-fn edit_in(alloc: Global, text: &str) -> Result<Edit, Fail>
-    ensures { IfOk result (λ edit. All IsValidChange edit.changes) }
-{
-    let tree = read(alloc, text.as_bytes())?;
-    let edit = edit_of(alloc, &tree)?;
-    Ok(edit)
-}
-
-fn after(alloc: Global, bundle: &Bundle, text: &str) -> Result<Bundle, Fail> {
-    let edit = edit_in(alloc, text)?;
-    Ok(bundle.after(&edit)?)
-}
-
-fn own_fault_after(alloc: Global, files: &Bundle, text: &str) -> Result<String, Fail> {
+fn has_fault_after(alloc: Global, files: &Bundle, text: &str, want: &str) -> Result<bool, Fail> {
     let bundle = after(alloc, files, text)?;
-    Ok(own_fault_line(alloc, &bundle)?)
-}
-
-fn check_row(rt: &impl Abort, alloc: Global, files: &Bundle, row: &str) -> Result<(), Fail> {
-    let (text, want) = halves(row);
-    let line = own_fault_after(alloc, files, text)?;
-    assert_eq!(rt; line.as_str(), want, "after {text}");
-    Ok(())
+    Ok(has_fault(&bundle, want))
 }
 
 fn check_rows(rt: &impl Abort, alloc: Global, files: &Bundle, rows: &str) -> Result<(), Fail> {
     for row in rows.lines() {
-        check_row(rt, alloc, files, row)?;
+        let (text, want) = halves(row, " => ");
+        assert!(rt; has_fault_after(alloc, files, text, want)?, "after {row}");
     }
     Ok(())
 }
 
+fn check_after(
+    rt: &impl Abort,
+    alloc: Global,
+    files: &mut Bundle,
+    first: &str,
+    rows: &str,
+) -> Result<(), Fail> {
+    step(alloc, files, first)?;
+    check_rows(rt, alloc, files, rows)
+}
+
 // Asks for the least fault after each of the edits on the files that the first one leaves.
 fn check(rt: &impl Abort, alloc: Global, first: &str, rows: &str) -> Result<(), Fail> {
-    let none = Bundle::empty(alloc);
-    let files = after(alloc, &none, first)?;
-    check_rows(rt, alloc, &files, rows)
+    let mut files = Bundle::empty(alloc);
+    check_after(rt, alloc, &mut files, first, rows)
 }
 
 const ALONE: &str = r#"[] => none
@@ -156,11 +125,10 @@ const TYPES: &str =
 [{"put":"dictionary.json","body":{"types":{"attributes":{"t":{"type":"nope"}}}}},{"put":"extensions/e/objects/p.json","body":{"extends":"file"}}] => patch_target;extensions/e/objects/p.json;file
 [{"put":"dictionary.json","body":{"types":{"attributes":{"t":{"type":"nope"}}}}},{"put":"extensions/e/objects/p.json","body":{"extends":"file"}},{"put":"categories.json","body":{"attributes":{"zero":{"uid":0}}}}] => uid_taken;category:zero;0"#;
 
-const CHAIN: [&str; 3] = [
-    r#"[{"put":"extensions/e/extension.json","body":{"name":"e","uid":9}},{"enable":"e"},{"put":"dictionary.json","body":{"types":{"attributes":{"#,
-    r#""t#":{"type":"t+"},"#,
-    r#""x":{"type":"string_t"}}}}}]"#,
-];
+const CHAIN: &str =
+    r#"[{"put":"extensions/e/extension.json","body":{"name":"e","uid":9}},{"enable":"e"},{"put":"dictionary.json","body":{"types":{"attributes":{
+"t#":{"type":"t+"},
+"x":{"type":"string_t"}}}}}]"#;
 
 // On a chain of 31 moves from `t10` to `t41`.
 const CHAINED: &str = r#"[] => type_unknown;type:t10;t41
@@ -189,39 +157,47 @@ fn push_numbered(text: &mut String, template: &str, number: u32) -> Result<(), A
 }
 
 // An edit that holds the middle part for each number from 10 up to there.
-fn many(alloc: Global, parts: [&str; 3], to: u32) -> Result<String, AllocError> {
-    let [front, template, back] = parts;
-    let mut text = String::from_str(alloc, front)?;
+fn push_many(text: &mut String, parts: &str, to: u32) -> Result<(), AllocError> {
+    let (front, rest) = halves(parts, "\n");
+    let (template, back) = halves(rest, "\n");
+    text.push_str(front)?;
     for number in 10..to {
-        push_numbered(&mut text, template, number)?;
+        push_numbered(text, template, number)?;
     }
-    text.push_str(back)?;
-    Ok(text)
+    text.push_str(back)
+}
+
+fn check_many(
+    rt: &impl Abort,
+    alloc: Global,
+    parts: &str,
+    to: u32,
+    rows: &str,
+) -> Result<(), Fail> {
+    let mut text = String::new(alloc);
+    push_many(&mut text, parts, to)?;
+    check(rt, alloc, text.as_str(), rows)
 }
 
 #[test]
 fn finds_faults_of_types(rt: HostRuntime) -> Result<(), Fail> {
     let alloc = rt.alloc();
     check(&rt, alloc, EXTENSIONS, TYPES)?;
-    check(&rt, alloc, &many(alloc, CHAIN, 41)?, CHAINED)
+    check_many(&rt, alloc, CHAIN, 41, CHAINED)
 }
 
-const OBJECTS: [&str; 3] = [
-    "[",
-    r#"{"put":"objects/o#.json","body":{"name":"o#"}},"#,
-    r#"{"disable":"none"}]"#,
-];
+const OBJECTS: &str = r#"[
+{"put":"objects/o#.json","body":{"name":"o#"}},
+{"disable":"none"}]"#;
 
 // On 4,096 objects from `o10`.
 const OF_OBJECTS: &str = r#"[] => none
 [{"put":"objects/o1.json","body":{"name":"o10"}}] => too_many;bundle;files
 [{"put":"extensions/off/objects/o1.json","body":{"name":"o1"}}] => too_many;bundle;files"#;
 
-const ENABLED: [&str; 3] = [
-    "[",
-    r#"{"put":"extensions/e#/extension.json","body":{"name":"e#","uid":#}},{"enable":"e#"},"#,
-    r#"{"disable":"none"}]"#,
-];
+const ENABLED: &str = r#"[
+{"put":"extensions/e#/extension.json","body":{"name":"e#","uid":#}},{"enable":"e#"},
+{"disable":"none"}]"#;
 
 // On 64 extensions from `e10`.
 const OF_EXTENSIONS: &str = r#"[] => none
@@ -234,6 +210,6 @@ const OF_EXTENSIONS: &str = r#"[] => none
 #[test]
 fn counts_files_and_extensions(rt: HostRuntime) -> Result<(), Fail> {
     let alloc = rt.alloc();
-    check(&rt, alloc, &many(alloc, OBJECTS, 4106)?, OF_OBJECTS)?;
-    check(&rt, alloc, &many(alloc, ENABLED, 74)?, OF_EXTENSIONS)
+    check_many(&rt, alloc, OBJECTS, 4106, OF_OBJECTS)?;
+    check_many(&rt, alloc, ENABLED, 74, OF_EXTENSIONS)
 }

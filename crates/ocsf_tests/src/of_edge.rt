@@ -1,3 +1,5 @@
+// The outside in memory and of the system.
+use crate::shared::halves;
 use ocsf_edge::{
     Bytes, DirFolder, Folder, Keeper, Kept, KeptFile, MemoryFolder, MemorySink, MemorySource, Move,
     Seq, Sink, Source, StdSink, StdSource, SureFolder, SureKeeper, SureSink, SureSource, write_all,
@@ -14,34 +16,35 @@ fn numbers(alloc: Global, values: &[u64]) -> Result<Seq<u64>, AllocError> {
     Ok(Seq::from(values.to_vec(alloc)?))
 }
 
-// A call moves so many bytes, or fails where there is none.
-fn check_moves(rt: &impl Abort, source: &mut impl Source, moves: &[Option<usize>]) {
+// A call moves so many bytes, or fails where the word is no number.
+fn moves(source: &mut impl Source, words: &str) -> bool {
     let mut buffer = [0u8; 4];
-    for moved in moves {
-        assert_eq!(rt; source.read(&mut buffer).ok(), *moved);
+    for word in words.split(' ') {
+        if source.read(&mut buffer).ok() != word.parse::<usize>().ok() {
+            return false;
+        }
     }
+    true
 }
 
 // Sizes 2 and 0, and then no bound; the call that fails moves no size on.
-#[test]
-fn sources_move_pieces(rt: HostRuntime) -> Result<(), Fail> {
-    let alloc = rt.alloc();
-    let bytes = Bytes::of(alloc, b"abcdef")?;
-    let mut source = MemorySource::new(bytes, numbers(alloc, &[2, 0])?, numbers(alloc, &[2])?);
-    check_moves(
-        &rt,
-        &mut source,
-        &[Some(2), None, Some(1), Some(3), Some(0)],
-    );
-    Ok(())
+fn memory_moves(alloc: Global) -> Result<bool, AllocError> {
+    let sizes = numbers(alloc, &[2, 0])?;
+    let failing = numbers(alloc, &[2])?;
+    let mut source = MemorySource::new(Bytes::of(alloc, b"abcdef")?, sizes, failing);
+    Ok(moves(&mut source, "2 fails 1 3 0"))
+}
+
+fn sure_moves(alloc: Global) -> Result<bool, AllocError> {
+    let sizes = numbers(alloc, &[2, 0])?;
+    let mut source = SureSource::new(Bytes::of(alloc, b"abcdef")?, sizes);
+    Ok(moves(&mut source, "2 1 3 0"))
 }
 
 #[test]
-fn sure_sources_move_pieces(rt: HostRuntime) -> Result<(), Fail> {
-    let alloc = rt.alloc();
-    let bytes = Bytes::of(alloc, b"abcdef")?;
-    let mut source = SureSource::new(bytes, numbers(alloc, &[2, 0])?);
-    check_moves(&rt, &mut source, &[Some(2), Some(1), Some(3), Some(0)]);
+fn sources_move_pieces(rt: HostRuntime) -> Result<(), Fail> {
+    assert!(rt; memory_moves(rt.alloc())?);
+    assert!(rt; sure_moves(rt.alloc())?);
     Ok(())
 }
 
@@ -52,10 +55,14 @@ fn keeps_bytes(sink: &mut MemorySink) -> bool {
         && sink.written() == b"abefgh".as_slice()
 }
 
+fn sink_keeps_bytes(alloc: Global) -> Result<bool, AllocError> {
+    let mut sink = MemorySink::new(alloc, numbers(alloc, &[2])?);
+    Ok(keeps_bytes(&mut sink))
+}
+
 #[test]
 fn sinks_keep_bytes(rt: HostRuntime) -> Result<(), Fail> {
-    let mut sink = MemorySink::new(rt.alloc(), numbers(rt.alloc(), &[2])?);
-    assert!(rt; keeps_bytes(&mut sink));
+    assert!(rt; sink_keeps_bytes(rt.alloc())?);
     assert_eq!(rt; SureSink::new().write(b"ab").ok(), Some(2));
     Ok(())
 }
@@ -79,10 +86,8 @@ impl Read for Broken {
 
 #[test]
 fn std_readers(rt: HostRuntime) {
-    let mut source = StdSource::new(b"abcdef".as_slice());
-    check_moves(&rt, &mut source, &[Some(4), Some(2), Some(0)]);
-    let mut broken = StdSource::new(Broken { given: false });
-    check_moves(&rt, &mut broken, &[Some(1), None]);
+    assert!(rt; moves(&mut StdSource::new(b"abcdef".as_slice()), "4 2 0"));
+    assert!(rt; moves(&mut StdSource::new(Broken { given: false }), "1 fails"));
 }
 
 // A full slice takes nothing, which is a fault of the writer unless nothing was to be written.
@@ -101,14 +106,10 @@ fn std_writers(rt: HostRuntime) {
     assert!(rt; fills(buffer.as_mut_slice()));
 }
 
-fn halves(row: &str) -> (&str, &str) {
-    row.split_once(' ').unwrap_or_default()
-}
-
 // `enable`, `disable` and `remove` with a name, or `put` with a path and a body
 fn move_of(alloc: Global, row: &str) -> Result<Move, AllocError> {
-    let (kind, rest) = halves(row);
-    let (path, body) = halves(rest);
+    let (kind, rest) = halves(row, " ");
+    let (path, body) = halves(rest, " ");
     match kind {
         "enable" => Ok(Move::Enable(Bytes::of(alloc, rest.as_bytes())?)),
         "disable" => Ok(Move::Disable(Bytes::of(alloc, rest.as_bytes())?)),
@@ -131,7 +132,7 @@ enable w
 enable w
 disable v";
 
-fn moves(alloc: Global) -> Result<Seq<Move>, AllocError> {
+fn moves_of(alloc: Global) -> Result<Seq<Move>, AllocError> {
     let mut moves = Seq::new(alloc);
     for row in MOVES.lines() {
         moves.push(move_of(alloc, row)?)?;
@@ -139,15 +140,22 @@ fn moves(alloc: Global) -> Result<Seq<Move>, AllocError> {
     Ok(moves)
 }
 
-fn stored(alloc: Global) -> Result<SureKeeper, Fail> {
-    let moves = moves(alloc)?;
-    let mut keeper = SureKeeper::new(Kept {
+fn empty(alloc: Global) -> SureKeeper {
+    SureKeeper::new(Kept {
         files: Seq::new(alloc),
         enabled: Seq::new(alloc),
         revision: 0,
-    });
-    keeper.commit(moves.as_slice(), 7)?;
-    Ok(keeper)
+    })
+}
+
+fn store(alloc: Global, keeper: &mut SureKeeper) -> Result<(), Fail> {
+    let moves = moves_of(alloc)?;
+    Ok(keeper.commit(moves.as_slice(), 7)?)
+}
+
+fn stored(alloc: Global, keeper: &mut SureKeeper) -> Result<Kept, Fail> {
+    store(alloc, keeper)?;
+    Ok(keeper.load()?)
 }
 
 fn is_file(file: &KeptFile, path: &str, body: &str) -> bool {
@@ -161,18 +169,22 @@ fn is_kept(kept: &Kept) -> bool {
     let [word] = kept.enabled.as_slice() else {
         return false;
     };
-    is_file(first, "d/a", "2")
+    kept.revision == 7
+        && is_file(first, "d/a", "2")
         && is_file(second, "d/b", "34")
         && is_file(third, "dd/c", "5")
         && word.as_slice() == b"w".as_slice()
 }
 
+fn keeper_commits(alloc: Global) -> Result<bool, Fail> {
+    let mut keeper = empty(alloc);
+    let kept = stored(alloc, &mut keeper)?;
+    Ok(is_kept(&kept))
+}
+
 #[test]
 fn keepers_commit_moves(rt: HostRuntime) -> Result<(), Fail> {
-    let mut keeper = stored(rt.alloc())?;
-    assert_eq!(rt; keeper.kept().revision, 7);
-    let kept = keeper.load()?;
-    assert!(rt; is_kept(&kept));
+    assert!(rt; keeper_commits(rt.alloc())?);
     Ok(())
 }
 
@@ -203,12 +215,14 @@ fn is_sure(folder: &mut SureFolder) -> bool {
         && reads(folder, ("d", b"x"), 9, "")
 }
 
-#[test]
-fn folders_list_and_read(rt: HostRuntime) -> Result<(), Fail> {
-    let mut keeper = stored(rt.alloc())?;
-    let mut folder = SureFolder::new(keeper.load()?.files);
-    assert!(rt; is_sure(&mut folder));
-    Ok(())
+fn files(alloc: Global) -> Result<Seq<KeptFile>, Fail> {
+    let mut keeper = empty(alloc);
+    Ok(stored(alloc, &mut keeper)?.files)
+}
+
+fn sure_folder(alloc: Global) -> Result<bool, Fail> {
+    let mut folder = SureFolder::new(files(alloc)?);
+    Ok(is_sure(&mut folder))
 }
 
 // The second and the fourth call fail, and each that reads where no file is.
@@ -221,12 +235,16 @@ fn fails(folder: &mut MemoryFolder) -> bool {
         && reads(folder, ("d", b"b"), 1, "3")
 }
 
+fn failing_folder(alloc: Global) -> Result<bool, Fail> {
+    let failing = numbers(alloc, &[2, 4])?;
+    let mut folder = MemoryFolder::new(files(alloc)?, failing);
+    Ok(fails(&mut folder))
+}
+
 #[test]
-fn folders_fail(rt: HostRuntime) -> Result<(), Fail> {
-    let mut keeper = stored(rt.alloc())?;
-    let failing = numbers(rt.alloc(), &[2, 4])?;
-    let mut folder = MemoryFolder::new(keeper.load()?.files, failing);
-    assert!(rt; fails(&mut folder));
+fn folders_list_and_read(rt: HostRuntime) -> Result<(), Fail> {
+    assert!(rt; sure_folder(rt.alloc())?);
+    assert!(rt; failing_folder(rt.alloc())?);
     Ok(())
 }
 

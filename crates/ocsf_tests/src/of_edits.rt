@@ -1,38 +1,16 @@
-ghost use Rattle.std.specs.Prelude.{All, IfOk};
-ghost use Rattle.ocsf_bundle.specs.Edits.{IsValidChange};
-
+// What edits say, and the files that they leave.
+use crate::shared::{edit, halves, is_fault, push_word};
 use ocsf_bundle::{Bundle, Change, Edit, StoredFile, edit_of};
 use ocsf_raw::RawError;
-use ocsf_tree::{Fault, read};
+use ocsf_tree::read;
 use std::alloc::{AllocError, Global};
 use std::process::Abort;
 use std::test::Fail;
 
-// What is asked in a row of a table, and what is wanted.
-fn halves(row: &str) -> (&str, &str) {
-    match row.split_once(" => ") {
-        Some(halves) => halves,
-        None => (row, "no answer"),
-    }
-}
-
-fn push_word(line: &mut String, word: &str) -> Result<(), AllocError> {
-    line.push_str(word)?;
-    line.push(';')
-}
-
-fn fault_line(alloc: Global, fault: &Fault) -> Result<String, AllocError> {
-    let mut line = String::from_str(alloc, fault.code.as_str())?;
-    line.push(';')?;
-    push_word(&mut line, fault.subject.as_str())?;
-    line.push_str(fault.name.as_str())?;
-    Ok(line)
-}
-
-fn refusal_line(alloc: Global, error: &RawError) -> Result<String, AllocError> {
+fn is_refused(error: &RawError, want: &str) -> bool {
     match error {
-        RawError::Fault(fault) => fault_line(alloc, fault),
-        RawError::Memory => String::from_str(alloc, "memory"),
+        RawError::Fault(fault) => is_fault(fault, want),
+        RawError::Memory => false,
     }
 }
 
@@ -63,18 +41,17 @@ fn edit_line(alloc: Global, changes: &[Change]) -> Result<String, AllocError> {
     Ok(line)
 }
 
-fn outcome_line(alloc: Global, outcome: &Result<Edit, RawError>) -> Result<String, AllocError> {
+// Whether these are the changes of an edit, or this is what is wrong with it.
+fn is_outcome(alloc: Global, outcome: &Result<Edit, RawError>, want: &str) -> Result<bool, Fail> {
     match outcome {
-        Ok(edit) => edit_line(alloc, edit.changes.as_slice()),
-        Err(error) => refusal_line(alloc, error),
+        Ok(edit) => Ok(edit_line(alloc, edit.changes.as_slice())?.as_str() == want),
+        Err(error) => Ok(is_refused(error, want)),
     }
 }
 
-// The changes of an edit, or what is wrong with it.
-fn outcome(alloc: Global, text: &str) -> Result<String, Fail> {
+fn is_read(alloc: Global, text: &str, want: &str) -> Result<bool, Fail> {
     let tree = read(alloc, text.as_bytes())?;
-    let line = outcome_line(alloc, &edit_of(alloc, &tree));
-    Ok(line?)
+    is_outcome(alloc, &edit_of(alloc, &tree), want)
 }
 
 const EDITS: &str = r#"[] => ok;
@@ -100,17 +77,11 @@ null => shape;; not_a_list
 [{"remove":"p"},{"disable":""},5] => shape;;/1/disable bad_name
 [{"remove":"p"},{"enable":5},{}] => shape;;/1/enable not_a_text"#;
 
-fn check_edit(rt: &impl Abort, alloc: Global, row: &str) -> Result<(), Fail> {
-    let (text, want) = halves(row);
-    let line = outcome(alloc, text)?;
-    assert_eq!(rt; line.as_str(), want, "at {text}");
-    Ok(())
-}
-
 #[test]
 fn reads_edits(rt: HostRuntime) -> Result<(), Fail> {
     for row in EDITS.lines() {
-        check_edit(&rt, rt.alloc(), row)?;
+        let (text, want) = halves(row, " => ");
+        assert!(rt; is_read(rt.alloc(), text, want)?, "at {row}");
     }
     Ok(())
 }
@@ -149,47 +120,38 @@ const STEPS: &str = r#"[] => files;
 [{"put":"objects/c.json","body":{"name":"c"}},{"remove":"objects/c.json"},{"disable":"y"},{"enable":"y"}] => files;objects/a.json;{"name":"e"};y;
 [{"remove":"objects/a.json"},{"disable":"y"}] => files;"#;
 
-fn edit_in(alloc: Global, text: &str) -> Result<Edit, Fail>
-    ensures { IfOk result (λ edit. All IsValidChange edit.changes) }
-{
-    let tree = read(alloc, text.as_bytes())?;
-    let edit = edit_of(alloc, &tree)?;
-    Ok(edit)
-}
-
-fn kept(
-    alloc: Global,
-    bundle: &mut Bundle,
-    outcome: Result<Bundle, RawError>,
-) -> Result<String, Fail> {
+// Keeps what an edit leaves where it has no fault, as the row then says.
+fn is_kept(bundle: &mut Bundle, outcome: Result<Bundle, RawError>, want: &str) -> bool {
     match outcome {
         Ok(made) => {
             *bundle = made;
-            bundle_line(alloc, bundle)
+            want.starts_with("files;")
         }
-        Err(error) => Ok(refusal_line(alloc, &error)?),
+        Err(error) => is_refused(&error, want),
     }
 }
 
-// Applies the edit where it has no fault, and tells what then there is.
-fn step(alloc: Global, bundle: &mut Bundle, text: &str) -> Result<String, Fail> {
-    let edit = edit_in(alloc, text)?;
+fn step(alloc: Global, bundle: &mut Bundle, text: &str, want: &str) -> Result<bool, Fail> {
+    let edit = edit(alloc, text)?;
     let outcome = bundle.after(&edit);
-    kept(alloc, bundle, outcome)
+    Ok(is_kept(bundle, outcome, want))
 }
 
-fn check_step(rt: &impl Abort, alloc: Global, bundle: &mut Bundle, row: &str) -> Result<(), Fail> {
-    let (text, want) = halves(row);
-    let line = step(alloc, bundle, text)?;
-    assert_eq!(rt; line.as_str(), want, "after {text}");
+fn has_files(alloc: Global, bundle: &Bundle, want: &str) -> Result<bool, Fail> {
+    Ok(!want.starts_with("files;") || bundle_line(alloc, bundle)?.as_str() == want)
+}
+
+fn check_steps(rt: &impl Abort, alloc: Global, bundle: &mut Bundle) -> Result<(), Fail> {
+    for row in STEPS.lines() {
+        let (text, want) = halves(row, " => ");
+        assert!(rt; step(alloc, bundle, text, want)?, "after {row}");
+        assert!(rt; has_files(alloc, bundle, want)?, "after {row}");
+    }
     Ok(())
 }
 
 #[test]
 fn applies_edits(rt: HostRuntime) -> Result<(), Fail> {
     let mut bundle = Bundle::empty(rt.alloc());
-    for row in STEPS.lines() {
-        check_step(&rt, rt.alloc(), &mut bundle, row)?;
-    }
-    Ok(())
+    check_steps(&rt, rt.alloc(), &mut bundle)
 }

@@ -2,6 +2,7 @@ ghost use Rattle.std.specs.Prelude.{◌≡◌, ◌+◌, ◌%◌, ◌^◌, ◌==�
 ghost use Rattle.std.proofs.Common.{arith, subst, sym};
 ghost use Rattle.std.proofs.lemmas.List.{take-take};
 
+use crate::shared::halves;
 use ocsf_edge::{Bytes, Failed, MemorySink, MemorySource, Seq, Sink, write_all};
 use ocsf_lines::{LineMachine, LinesEnd, Reply, run_lines};
 use std::alloc::{AllocError, Global};
@@ -61,87 +62,114 @@ impl LineMachine for Echo {
         (take-take 5 6 line (Prim.omega arith)) step };
 }
 
-#[derive(Drop)]
-struct Outcome {
-    end: LinesEnd,
-    written: Bytes,
+fn numbers(alloc: Global, number: u64, count: usize) -> Result<Seq<u64>, AllocError> {
+    Ok(Seq::from(vec![in alloc; number; count]?))
 }
 
-// Echoes these bytes, read in pieces of this size, where the calls of these numbers fail.
-fn echoed(
+// These bytes in pieces of this size; the call of this number fails.
+fn source(
     alloc: Global,
     bytes: &[u8],
     size: u64,
-    failing_read: u64,
-    failing_write: u64,
-) -> Result<Outcome, AllocError> {
-    let sizes = Seq::from(vec![in alloc; size; bytes.len()]?);
-    let failing = Seq::from(vec![in alloc; failing_read]?);
-    let mut source = MemorySource::new(Bytes::of(alloc, bytes)?, sizes, failing);
-    let mut sink = MemorySink::new(alloc, Seq::from(vec![in alloc; failing_write]?));
-    let mut machine = Echo { alloc, count: 0 };
-    let end = run_lines(alloc, &mut machine, &mut source, &mut sink);
-    Ok(Outcome {
-        end,
-        written: Bytes::of(alloc, sink.written())?,
-    })
+    failing: u64,
+) -> Result<MemorySource, AllocError> {
+    let sizes = numbers(alloc, size, bytes.len())?;
+    let failing = numbers(alloc, failing, 1)?;
+    Ok(MemorySource::new(Bytes::of(alloc, bytes)?, sizes, failing))
 }
 
-const SIZES: [u64; 5] = [1, 2, 3, 7, 1000];
+fn ends(
+    alloc: Global,
+    source: &mut MemorySource,
+    sink: &mut MemorySink,
+    end: LinesEnd,
+    written: &str,
+) -> bool {
+    let mut machine = Echo { alloc, count: 0 };
+    run_lines(alloc, &mut machine, source, sink) == end && sink.written() == written.as_bytes()
+}
+
+// Whether a run over the source, where the write of this number fails, ends so and writes this.
+fn is_echoed(
+    alloc: Global,
+    source: &mut MemorySource,
+    failing: u64,
+    end: LinesEnd,
+    written: &str,
+) -> Result<bool, AllocError> {
+    let mut sink = MemorySink::new(alloc, numbers(alloc, failing, 1)?);
+    Ok(ends(alloc, source, &mut sink, end, written))
+}
+
+fn is_answered(alloc: Global, row: &str, size: u64) -> Result<bool, AllocError> {
+    let (bytes, rest) = halves(row, "|");
+    let (written, word) = halves(rest, "|");
+    let end = LinesEnd::Ended {
+        flawed: word == "flawed",
+    };
+    let mut source = source(alloc, bytes.as_bytes(), size, 0)?;
+    is_echoed(alloc, &mut source, 0, end, written)
+}
+
+// A row is the bytes of the source, what is written, and whether a line was at fault.
+const LINES: &str =
+    "|even|;\n|\nodd|flawed;ab|ab\nodd|;ab\n|ab\nodd|;ab\ncd\n\nefgh|ab\ncd\n\nefgh\neven|flawed;abcdefghi\njk\nlmnopqrs|abcde\njk\nlmnop\nodd|";
 
 #[test]
 fn lines_are_answered_however_they_are_cut(rt: HostRuntime) -> Result<(), Fail> {
-    for (bytes, written, flawed) in [
-        ("", "even", false),
-        ("\n", "\nodd", true),
-        ("ab", "ab\nodd", false),
-        ("ab\n", "ab\nodd", false),
-        ("ab\ncd\n\nefgh", "ab\ncd\n\nefgh\neven", true),
-        ("abcdefghi\njk\nlmnopqrs", "abcde\njk\nlmnop\nodd", false),
-    ] {
-        for size in SIZES {
-            let outcome = echoed(rt.alloc(), bytes.as_bytes(), size, 0, 0)?;
-            assert_eq!(rt;
-                outcome.end,
-                LinesEnd::Ended { flawed },
-                "{bytes} by {size}"
-            );
-            assert_eq!(rt;
-                outcome.written.as_slice(),
-                written.as_bytes(),
-                "{bytes} by {size}"
-            );
+    for row in LINES.split(';') {
+        for size in [1, 2, 3, 7, 1000] {
+            assert!(rt; is_answered(rt.alloc(), row, size)?, "{row} by {size}");
         }
     }
     Ok(())
 }
 
-// The numbers of the calls that fail: a read of a piece of four bytes, or the write of a reply.
+fn number(word: &str) -> u64 {
+    word.parse::<u64>().unwrap_or(0)
+}
+
+fn is_stopped(alloc: Global, row: &str) -> Result<bool, AllocError> {
+    let (of, rest) = halves(row, " ");
+    let (call, written) = halves(rest, "|");
+    let call = number(call);
+    let (read, write, end) = match of {
+        "read" => (call, 0, LinesEnd::ReadFault),
+        _ => (0, call, LinesEnd::WriteFault),
+    };
+    let mut source = source(alloc, b"ab\ncd\nefg", 4, read)?;
+    is_echoed(alloc, &mut source, write, end, written)
+}
+
+// The number of the call that fails, a read of a piece of four bytes or the write of a reply, and what was
+// written.
+const FAULTS: &str =
+    "read 1|;read 2|ab\n;read 4|ab\ncd\n;write 1|;write 2|ab\n;write 4|ab\ncd\nefg\n";
+
 #[test]
 fn faults_stop_a_run(rt: HostRuntime) -> Result<(), Fail> {
-    for (failing_read, failing_write, end, written) in [
-        (1, 0, LinesEnd::ReadFault, ""),
-        (2, 0, LinesEnd::ReadFault, "ab\n"),
-        (4, 0, LinesEnd::ReadFault, "ab\ncd\n"),
-        (0, 1, LinesEnd::WriteFault, ""),
-        (0, 2, LinesEnd::WriteFault, "ab\n"),
-        (0, 4, LinesEnd::WriteFault, "ab\ncd\nefg\n"),
-    ] {
-        let outcome = echoed(rt.alloc(), b"ab\ncd\nefg", 4, failing_read, failing_write)?;
-        assert_eq!(rt; outcome.end, end, "{failing_read}, {failing_write}");
-        assert_eq!(rt; outcome.written.as_slice(), written.as_bytes());
+    for row in FAULTS.split(';') {
+        assert!(rt; is_stopped(rt.alloc(), row)?, "{row}");
     }
     Ok(())
+}
+
+fn long_lines(alloc: Global) -> Result<Vec<u8>, AllocError> {
+    let mut bytes = vec![in alloc; b'a'; 200_000]?;
+    bytes.extend_from_slice(b"\nbc\n")?;
+    Ok(bytes)
+}
+
+fn holds_long_lines(alloc: Global) -> Result<bool, AllocError> {
+    let bytes = long_lines(alloc)?;
+    let mut source = source(alloc, &bytes, 1_000_000, 0)?;
+    let end = LinesEnd::Ended { flawed: false };
+    is_echoed(alloc, &mut source, 0, end, "aaaaa\nbc\neven")
 }
 
 // A line and a source that are longer than one read.
 #[test]
 fn long_lines_are_held_in_part(rt: HostRuntime) -> Result<(), Fail> {
-    let alloc = rt.alloc();
-    let mut bytes = vec![in alloc; b'a'; 200_000]?;
-    bytes.extend_from_slice(b"\nbc\n")?;
-    let outcome = echoed(alloc, &bytes, 1_000_000, 0, 0)?;
-    assert_eq!(rt; outcome.end, LinesEnd::Ended { flawed: false });
-    assert_eq!(rt; outcome.written.as_slice(), b"aaaaa\nbc\neven".as_slice());
+    assert!(rt; holds_long_lines(rt.alloc())?);
     Ok(())
 }

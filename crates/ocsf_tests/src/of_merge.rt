@@ -1,66 +1,37 @@
-ghost use Rattle.std.specs.Prelude.{IfOk};
+// What layers say of attributes together.
 ghost use Rattle.ocsf_raw.specs.Ordered.{IsFileOrdered};
 
+use crate::shared::{file_of, halves};
 use ocsf_merge::{Spoken, Table};
-use ocsf_raw::{Mark, ProfileFile, RawAttr, RawFile, shape};
-use ocsf_tree::{EnumMember, Requirement, read};
-use std::alloc::AllocError;
+use ocsf_raw::{Mark, RawFile};
+use ocsf_tree::Requirement;
+use std::alloc::{AllocError, Global};
 use std::test::Fail;
 
-/// A file as it is written: its extension, its key where it is a profile, its path below its folder, and its text.
-#[derive(Clone, Copy)]
-struct Written {
-    from: &'static str,
-    key: &'static str,
-    path: &'static str,
-    text: &'static str,
-}
-
-fn item(from: &'static str, text: &'static str) -> Written {
-    Written {
-        from,
-        key: "",
-        path: "includes/i.json",
-        text,
-    }
-}
-
-fn profile(from: &'static str, key: &'static str, text: &'static str) -> Written {
-    Written {
-        from,
-        key,
-        path: "profiles/p.json",
-        text,
-    }
-}
-
-fn file_of(rt: &HostRuntime, written: Written) -> Result<RawFile, Fail>
-    ensures { IfOk result IsFileOrdered }
+fn fold_file(table: &mut Table, from: &str, key: &str, file: &RawFile) -> Result<(), Fail>
+    requires { IsFileOrdered file.now }
 {
-    let alloc = rt.alloc();
-    let tree = read(alloc, written.text.as_bytes())?;
-    match shape(alloc, written.path, &tree) {
-        Ok(file) => Ok(file),
-        Err(error) => Err(error.into()),
+    match file {
+        RawFile::Profile(file) => {
+            Ok(table.fold(from, Some(file), key, file.attributes.as_slice())?)
+        }
+        RawFile::Include(entries) => Ok(table.fold(from, None, "", entries.as_slice())?),
+        _ => Err("no layer".into()),
     }
 }
 
-fn fold(rt: &HostRuntime, table: &mut Table, written: Written) -> Result<(), Fail> {
-    match file_of(rt, written)? {
-        RawFile::Profile(file) => {
-            table.fold(
-                written.from,
-                Some(&file),
-                written.key,
-                file.attributes.as_slice(),
-            )?;
-        }
-        RawFile::Include(entries) => {
-            table.fold(written.from, None, "", entries.as_slice())?;
-        }
-        _ => return Err("no layer".into()),
-    }
-    Ok(())
+// A layer is its extension or `core`, what it is of, `item` or `profile:` and its key, and the text of its
+// file.
+fn fold(alloc: Global, table: &mut Table, layer: &str) -> Result<(), Fail> {
+    let (from, rest) = halves(layer, " ");
+    let (of, text) = halves(rest, " ");
+    let (path, key) = match of.strip_prefix("profile:") {
+        Some(key) => ("profiles/p.json", key),
+        None => ("includes/i.json", ""),
+    };
+    let from = if from == "core" { "" } else { from };
+    let file = file_of(alloc, path, text)?;
+    fold_file(table, from, key, &file)
 }
 
 // ---- how a row is written down: what it says, field by field
@@ -134,424 +105,222 @@ fn write_mark(out: &mut String, row: &Spoken) -> Result<(), AllocError> {
     out.push(';')
 }
 
-fn folded(rt: &HostRuntime, layers: &[Written]) -> Result<String, Fail> {
-    let mut table = Table::empty(rt.alloc());
-    for layer in layers {
-        fold(rt, &mut table, *layer)?;
-    }
-    let mut out = String::new(rt.alloc());
+fn is_written(alloc: Global, table: &Table, wanted: &str) -> Result<bool, Fail> {
+    let mut out = String::new(alloc);
     for row in table.rows.as_slice() {
         write_row(&mut out, row)?;
     }
-    Ok(out)
+    Ok(out.as_str() == wanted)
 }
+
+// ---- layers that a row writes out
+
+fn fold_all(alloc: Global, table: &mut Table, layers: &str) -> Result<(), Fail> {
+    for layer in layers.split(" + ") {
+        fold(alloc, table, layer)?;
+    }
+    Ok(())
+}
+
+fn is_folded(alloc: Global, table: &mut Table, layers: &str, wanted: &str) -> Result<bool, Fail> {
+    fold_all(alloc, table, layers)?;
+    is_written(alloc, table, wanted)
+}
+
+fn is_right(alloc: Global, layers: &str, wanted: &str) -> Result<bool, Fail> {
+    is_folded(alloc, &mut Table::empty(alloc), layers, wanted)
+}
+
+// A removal, and the attribute named again below it; a profile with annotations, and an entry that clears
+// the mark of one of its attributes; a removal between two profiles; a mark after a cleared one, in an
+// extension; annotations that yield to what the entry itself says, and come before what a later layer leaves
+// open; those of a later profile, which come before what an earlier layer says; an enumeration, key by key
+// over three layers; the extension that gives the type, and the attributes in byte order.
+const RULES: &str =
+    r#"core item {"attributes":{"name":{"requirement":"required"}}} + core item {"attributes":{"name":null}} | 
+core item {"attributes":{"name":{"requirement":"required"}}} + core item {"attributes":{"name":null}} + core item {"attributes":{"name":{}}} | name;
+core profile:p {"name":"p","annotations":{"group":"primary","requirement":"recommended"},"attributes":{"a":{},"b":{"requirement":"required"}}} + core item {"attributes":{"b":{"profile":null}}} | a recommended key=p group=primary;b required cleared group=primary;
+core profile:p {"name":"p","annotations":{"group":"g"},"attributes":{"a":{"type":"t"}}} + core item {"attributes":{"a":null}} + e profile:e/q {"name":"q","attributes":{"a":{"caption":"A"}}} | a caption=A key=e/q;
+core profile:p {"name":"p","attributes":{"a":{"profile":null}}} + e item {"attributes":{"a":{"profile":"q"}}} | a profile=q@e;
+core profile:p {"name":"p","annotations":{"group":"g","requirement":"recommended"},"attributes":{"a":{"group":"own","profile":"q","requirement":"optional"}}} + core item {"attributes":{"a":{"caption":"A"}}} | a caption=A optional profile=q group=own;
+core item {"attributes":{"a":{"group":"old","requirement":"required"}}} + core profile:p {"name":"p","annotations":{"group":"new"},"attributes":{"a":{}}} | a required key=p group=new;
+core item {"attributes":{"a":{"enum":{"1":{"caption":"x"},"2":{"caption":"y"}}}}} + core item {"attributes":{"a":{"enum":{"10":{"caption":"z"},"2":{"caption":"w"}}}}} + core item {"attributes":{"a":{"enum":{"0":{},"10":{"caption":"v"}}}}} | a 0:0 1:x 10:v 2:w;
+e item {"attributes":{"b":{"type":"t"},"c":{}}} + core item {"attributes":{"a":{"is_array":true},"b":{"sibling":"s"}}} + f item {"attributes":{"c":{"description":"d","type":"e/u"}}} | a array;b type=t@e sibling=s;c description=d type=e/u@f;"#;
 
 #[test]
 fn folds_by_the_rules(rt: HostRuntime) -> Result<(), Fail> {
-    let rows: [(&[Written], &str); 10] = [
-        (&[], ""),
-        // A removal, and the attribute named again below it.
-        (
-            &[
-                item("", r#"{"attributes":{"name":{"requirement":"required"}}}"#),
-                item("", r#"{"attributes":{"name":null}}"#),
-            ],
-            "",
-        ),
-        (
-            &[
-                item("", r#"{"attributes":{"name":{"requirement":"required"}}}"#),
-                item("", r#"{"attributes":{"name":null}}"#),
-                item("", r#"{"attributes":{"name":{}}}"#),
-            ],
-            "name;",
-        ),
-        // A profile with annotations, and an entry that clears the mark of one of its attributes.
-        (
-            &[
-                profile(
-                    "",
-                    "p",
-                    r#"{"name":"p","annotations":{"group":"primary","requirement":"recommended"},"attributes":{"a":{},"b":{"requirement":"required"}}}"#,
-                ),
-                item("", r#"{"attributes":{"b":{"profile":null}}}"#),
-            ],
-            "a recommended key=p group=primary;b required cleared group=primary;",
-        ),
-        // A removal between two profiles.
-        (
-            &[
-                profile(
-                    "",
-                    "p",
-                    r#"{"name":"p","annotations":{"group":"g"},"attributes":{"a":{"type":"t"}}}"#,
-                ),
-                item("", r#"{"attributes":{"a":null}}"#),
-                profile(
-                    "e",
-                    "e/q",
-                    r#"{"name":"q","attributes":{"a":{"caption":"A"}}}"#,
-                ),
-            ],
-            "a caption=A key=e/q;",
-        ),
-        // A mark after a cleared one, in an extension.
-        (
-            &[
-                profile(
-                    "",
-                    "p",
-                    r#"{"name":"p","attributes":{"a":{"profile":null}}}"#,
-                ),
-                item("e", r#"{"attributes":{"a":{"profile":"q"}}}"#),
-            ],
-            "a profile=q@e;",
-        ),
-        // Annotations yield to what the entry itself says, and come before what a later layer leaves open.
-        (
-            &[
-                profile(
-                    "",
-                    "p",
-                    r#"{"name":"p","annotations":{"group":"g","requirement":"recommended"},"attributes":{"a":{"group":"own","profile":"q","requirement":"optional"}}}"#,
-                ),
-                item("", r#"{"attributes":{"a":{"caption":"A"}}}"#),
-            ],
-            "a caption=A optional profile=q group=own;",
-        ),
-        // Annotations of a later profile come before what an earlier layer says.
-        (
-            &[
-                item(
-                    "",
-                    r#"{"attributes":{"a":{"group":"old","requirement":"required"}}}"#,
-                ),
-                profile(
-                    "",
-                    "p",
-                    r#"{"name":"p","annotations":{"group":"new"},"attributes":{"a":{}}}"#,
-                ),
-            ],
-            "a required key=p group=new;",
-        ),
-        // An enumeration, key by key over three layers.
-        (
-            &[
-                item(
-                    "",
-                    r#"{"attributes":{"a":{"enum":{"1":{"caption":"x"},"2":{"caption":"y"}}}}}"#,
-                ),
-                item(
-                    "",
-                    r#"{"attributes":{"a":{"enum":{"10":{"caption":"z"},"2":{"caption":"w"}}}}}"#,
-                ),
-                item(
-                    "",
-                    r#"{"attributes":{"a":{"enum":{"0":{},"10":{"caption":"v"}}}}}"#,
-                ),
-            ],
-            "a 0:0 1:x 10:v 2:w;",
-        ),
-        // The extension that gives the type, and the attributes in byte order.
-        (
-            &[
-                item("e", r#"{"attributes":{"b":{"type":"t"},"c":{}}}"#),
-                item(
-                    "",
-                    r#"{"attributes":{"a":{"is_array":true},"b":{"sibling":"s"}}}"#,
-                ),
-                item(
-                    "f",
-                    r#"{"attributes":{"c":{"description":"d","type":"e/u"}}}"#,
-                ),
-            ],
-            "a array;b type=t@e sibling=s;c description=d type=e/u@f;",
-        ),
-    ];
-    for (layers, want) in rows {
-        assert_eq!(rt; folded(&rt, layers)?.as_str(), want);
+    for row in RULES.lines() {
+        let (layers, wanted) = halves(row, " | ");
+        assert!(rt; is_right(rt.alloc(), layers, wanted)?, "{row}");
+    }
+    assert!(rt; is_written(rt.alloc(), &Table::empty(rt.alloc()), "")?);
+    Ok(())
+}
+
+// ---- each three of five layers
+
+const LAYERS: &str =
+    r#"core item {"attributes":{"a":{"caption":"c","enum":{"1":{},"2":{"caption":"x"}},"group":"g","requirement":"required","type":"t"}}}
+e item {"attributes":{"a":null,"b":{"is_array":true,"sibling":"s"}}}
+e profile:e/p {"annotations":{"group":"h","requirement":"recommended"},"attributes":{"a":{},"b":{"profile":"q"}},"name":"p"}
+f item {"attributes":{"a":{"description":"d","enum":{"10":{"caption":"z"},"2":{"caption":"y"}},"profile":null,"type":"e/u"}}}
+core profile:r {"attributes":{"a":{"caption":"r","is_array":false,"requirement":"optional"},"b":null},"name":"r"}"#;
+
+fn fold_places(alloc: Global, table: &mut Table, places: &str) -> Result<(), Fail> {
+    for place in places.split(' ') {
+        let at = place.parse::<usize>().unwrap_or(0);
+        fold(alloc, table, LAYERS.lines().nth(at).unwrap_or_default())?;
     }
     Ok(())
 }
 
-// ---- the same by a plain program, which scans all layers for each field
-
-/// The attributes and the keys that the layers of the comparison have, in byte order.
-const NAMES: [&str; 2] = ["a", "b"];
-
-const KEYS: [&str; 3] = ["1", "10", "2"];
-
-/// A layer, read.
-#[derive(Drop)]
-struct Parsed {
-    from: &'static str,
-    key: &'static str,
-    file: RawFile,
+fn is_folded_at(
+    alloc: Global,
+    table: &mut Table,
+    places: &str,
+    wanted: &str,
+) -> Result<bool, Fail> {
+    fold_places(alloc, table, places)?;
+    is_written(alloc, table, wanted)
 }
 
-#[derive(Clone, Copy)]
-enum Word {
-    Caption,
-    Description,
-    Type,
-    Sibling,
-    Requirement,
-    Group,
+fn is_right_at(alloc: Global, places: &str, wanted: &str) -> Result<bool, Fail> {
+    is_folded_at(alloc, &mut Table::empty(alloc), places, wanted)
 }
 
-fn profile_of(file: &RawFile) -> Option<&ProfileFile> {
-    match file {
-        RawFile::Profile(profile) => Some(profile),
-        _ => None,
-    }
-}
-
-fn entry_in<'a>(layer: &'a Parsed, name: &str) -> Option<&'a RawAttr> {
-    let entries = match &layer.file {
-        RawFile::Profile(file) => file.attributes.as_slice(),
-        RawFile::Include(entries) => entries.as_slice(),
-        _ => &[],
-    };
-    for entry in entries {
-        if entry.name.as_str() == name {
-            return Some(entry);
-        }
-    }
-    None
-}
-
-/// The number of layers up to the last removal.
-fn layers_forgotten(layers: &[Parsed], name: &str) -> usize {
-    let mut forgotten = 0;
-    for (index, layer) in layers.iter().enumerate() {
-        if let Some(entry) = entry_in(layer, name) {
-            if entry.removed {
-                forgotten = index + 1;
-            }
-        }
-    }
-    forgotten
-}
-
-fn is_named(layers: &[Parsed], forgotten: usize, name: &str) -> bool {
-    for (index, layer) in layers.iter().enumerate() {
-        if index >= forgotten && entry_in(layer, name).is_some() {
-            return true;
-        }
-    }
-    false
-}
-
-fn requirement_of(layer: &Parsed, entry: &RawAttr) -> Option<Requirement> {
-    match (entry.requirement, profile_of(&layer.file)) {
-        (None, Some(file)) => file.requirement,
-        (requirement, _) => requirement,
-    }
-}
-
-fn group_of<'a>(layer: &'a Parsed, entry: &'a RawAttr) -> Option<&'a str> {
-    if let Some(group) = &entry.group {
-        return Some(group.as_str());
-    }
-    if let Some(file) = profile_of(&layer.file) {
-        if let Some(group) = &file.group {
-            return Some(group.as_str());
-        }
-    }
-    None
-}
-
-fn own_word(entry: &RawAttr, which: Word) -> Option<&str> {
-    let text = match which {
-        Word::Caption => &entry.caption,
-        Word::Description => &entry.description,
-        Word::Type => &entry.type_name,
-        _ => &entry.sibling,
-    };
-    match text {
-        Some(text) => Some(text.as_str()),
-        None => None,
-    }
-}
-
-fn word_of<'a>(layer: &'a Parsed, entry: &'a RawAttr, which: Word) -> Option<&'a str> {
-    match which {
-        Word::Requirement => match requirement_of(layer, entry) {
-            Some(requirement) => Some(requirement_word(requirement)),
-            None => None,
-        },
-        Word::Group => group_of(layer, entry),
-        _ => own_word(entry, which),
-    }
-}
-
-fn write_last_word(
-    out: &mut String,
-    layers: &[Parsed],
-    name: &str,
-    which: Word,
-    label: &str,
-) -> Result<(), AllocError> {
-    let forgotten = layers_forgotten(layers, name);
-    let mut said = None;
-    for (index, layer) in layers.iter().enumerate() {
-        if index >= forgotten {
-            if let Some(entry) = entry_in(layer, name) {
-                if let Some(word) = word_of(layer, entry, which) {
-                    said = Some((word, layer.from));
-                }
-            }
-        }
-    }
-    match (said, which) {
-        (Some((word, from)), Word::Type) => write_field(out, label, word, from),
-        (Some((word, _)), _) => write_field(out, label, word, ""),
-        (None, _) => Ok(()),
-    }
-}
-
-fn write_last_array(out: &mut String, layers: &[Parsed], name: &str) -> Result<(), AllocError> {
-    let forgotten = layers_forgotten(layers, name);
-    let mut said = "";
-    for (index, layer) in layers.iter().enumerate() {
-        if index >= forgotten {
-            if let Some(entry) = entry_in(layer, name) {
-                if let Some(is_array) = entry.is_array {
-                    said = if is_array { "array" } else { "single" };
-                }
-            }
-        }
-    }
-    if said.is_empty() {
-        return Ok(());
-    }
-    write_field(out, said, "", "")
-}
-
-fn member_in<'a>(members: &'a [EnumMember], key: &str) -> Option<&'a EnumMember> {
-    for member in members {
-        if member.key.as_str() == key {
-            return Some(member);
-        }
-    }
-    None
-}
-
-fn write_last_member(
-    out: &mut String,
-    layers: &[Parsed],
-    name: &str,
-    key: &str,
-) -> Result<(), AllocError> {
-    let forgotten = layers_forgotten(layers, name);
-    let mut said = None;
-    for (index, layer) in layers.iter().enumerate() {
-        if index >= forgotten {
-            if let Some(entry) = entry_in(layer, name) {
-                if let Some(member) = member_in(entry.members.as_slice(), key) {
-                    said = Some(member.caption.as_str());
-                }
-            }
-        }
-    }
-    if let Some(caption) = said {
-        write_field(out, key, ":", "")?;
-        out.push_str(caption)?;
-    }
-    Ok(())
-}
-
-fn write_last_mark(out: &mut String, layers: &[Parsed], name: &str) -> Result<(), AllocError> {
-    let forgotten = layers_forgotten(layers, name);
-    let mut said = ("", "", "");
-    for (index, layer) in layers.iter().enumerate() {
-        if index >= forgotten {
-            if let Some(entry) = entry_in(layer, name) {
-                match &entry.mark {
-                    Mark::Named(name) => said = ("profile=", name.as_str(), layer.from),
-                    Mark::Cleared => said = ("cleared", "", ""),
-                    Mark::Unsaid => {
-                        if profile_of(&layer.file).is_some() {
-                            said = ("key=", layer.key, "");
-                        }
-                    }
-                }
-            }
-        }
-    }
-    let (label, word, from) = said;
-    if label.is_empty() {
-        return Ok(());
-    }
-    write_field(out, label, word, from)
-}
-
-fn scanned(rt: &HostRuntime, written: &[Written]) -> Result<String, Fail> {
-    let mut layers = Vec::new(rt.alloc());
-    for layer in written {
-        layers.push(Parsed {
-            from: layer.from,
-            key: layer.key,
-            file: file_of(rt, *layer)?,
-        })?;
-    }
-    let mut out = String::new(rt.alloc());
-    for name in NAMES {
-        if is_named(&layers, layers_forgotten(&layers, name), name) {
-            out.push_str(name)?;
-            write_last_word(&mut out, &layers, name, Word::Caption, "caption=")?;
-            write_last_word(&mut out, &layers, name, Word::Description, "description=")?;
-            write_last_word(&mut out, &layers, name, Word::Type, "type=")?;
-            write_last_array(&mut out, &layers, name)?;
-            for key in KEYS {
-                write_last_member(&mut out, &layers, name, key)?;
-            }
-            write_last_word(&mut out, &layers, name, Word::Sibling, "sibling=")?;
-            write_last_word(&mut out, &layers, name, Word::Requirement, "")?;
-            write_last_mark(&mut out, &layers, name)?;
-            write_last_word(&mut out, &layers, name, Word::Group, "group=")?;
-            out.push(';')?;
-        }
-    }
-    Ok(out)
-}
+// A row has the places of three layers, and what a scan over the three finds for each field: the last
+// layer that gives it, after the last removal.
+const THREES: &str = "0 0 0 | a caption=c type=t 1:1 2:x required group=g;
+0 0 1 | b array sibling=s;
+0 0 2 | a caption=c type=t 1:1 2:x recommended key=e/p group=h;b recommended profile=q@e group=h;
+0 0 3 | a caption=c description=d type=e/u@f 1:1 10:z 2:y required cleared group=g;
+0 0 4 | a caption=r type=t single 1:1 2:x optional key=r group=g;
+0 1 0 | a caption=c type=t 1:1 2:x required group=g;b array sibling=s;
+0 1 1 | b array sibling=s;
+0 1 2 | a recommended key=e/p group=h;b array sibling=s recommended profile=q@e group=h;
+0 1 3 | a description=d type=e/u@f 10:z 2:y cleared;b array sibling=s;
+0 1 4 | a caption=r single optional key=r;
+0 2 0 | a caption=c type=t 1:1 2:x required key=e/p group=g;b recommended profile=q@e group=h;
+0 2 1 | b array sibling=s recommended profile=q@e group=h;
+0 2 2 | a caption=c type=t 1:1 2:x recommended key=e/p group=h;b recommended profile=q@e group=h;
+0 2 3 | a caption=c description=d type=e/u@f 1:1 10:z 2:y recommended cleared group=h;b recommended profile=q@e group=h;
+0 2 4 | a caption=r type=t single 1:1 2:x optional key=r group=h;
+0 3 0 | a caption=c description=d type=t 1:1 10:z 2:x required cleared group=g;
+0 3 1 | b array sibling=s;
+0 3 2 | a caption=c description=d type=e/u@f 1:1 10:z 2:y recommended key=e/p group=h;b recommended profile=q@e group=h;
+0 3 3 | a caption=c description=d type=e/u@f 1:1 10:z 2:y required cleared group=g;
+0 3 4 | a caption=r description=d type=e/u@f single 1:1 10:z 2:y optional key=r group=g;
+0 4 0 | a caption=c type=t single 1:1 2:x required key=r group=g;
+0 4 1 | b array sibling=s;
+0 4 2 | a caption=r type=t single 1:1 2:x recommended key=e/p group=h;b recommended profile=q@e group=h;
+0 4 3 | a caption=r description=d type=e/u@f single 1:1 10:z 2:y optional cleared group=g;
+0 4 4 | a caption=r type=t single 1:1 2:x optional key=r group=g;
+1 0 0 | a caption=c type=t 1:1 2:x required group=g;b array sibling=s;
+1 0 1 | b array sibling=s;
+1 0 2 | a caption=c type=t 1:1 2:x recommended key=e/p group=h;b array sibling=s recommended profile=q@e group=h;
+1 0 3 | a caption=c description=d type=e/u@f 1:1 10:z 2:y required cleared group=g;b array sibling=s;
+1 0 4 | a caption=r type=t single 1:1 2:x optional key=r group=g;
+1 1 0 | a caption=c type=t 1:1 2:x required group=g;b array sibling=s;
+1 1 1 | b array sibling=s;
+1 1 2 | a recommended key=e/p group=h;b array sibling=s recommended profile=q@e group=h;
+1 1 3 | a description=d type=e/u@f 10:z 2:y cleared;b array sibling=s;
+1 1 4 | a caption=r single optional key=r;
+1 2 0 | a caption=c type=t 1:1 2:x required key=e/p group=g;b array sibling=s recommended profile=q@e group=h;
+1 2 1 | b array sibling=s recommended profile=q@e group=h;
+1 2 2 | a recommended key=e/p group=h;b array sibling=s recommended profile=q@e group=h;
+1 2 3 | a description=d type=e/u@f 10:z 2:y recommended cleared group=h;b array sibling=s recommended profile=q@e group=h;
+1 2 4 | a caption=r single optional key=r group=h;
+1 3 0 | a caption=c description=d type=t 1:1 10:z 2:x required cleared group=g;b array sibling=s;
+1 3 1 | b array sibling=s;
+1 3 2 | a description=d type=e/u@f 10:z 2:y recommended key=e/p group=h;b array sibling=s recommended profile=q@e group=h;
+1 3 3 | a description=d type=e/u@f 10:z 2:y cleared;b array sibling=s;
+1 3 4 | a caption=r description=d type=e/u@f single 10:z 2:y optional key=r;
+1 4 0 | a caption=c type=t single 1:1 2:x required key=r group=g;
+1 4 1 | b array sibling=s;
+1 4 2 | a caption=r single recommended key=e/p group=h;b recommended profile=q@e group=h;
+1 4 3 | a caption=r description=d type=e/u@f single 10:z 2:y optional cleared;
+1 4 4 | a caption=r single optional key=r;
+2 0 0 | a caption=c type=t 1:1 2:x required key=e/p group=g;b recommended profile=q@e group=h;
+2 0 1 | b array sibling=s recommended profile=q@e group=h;
+2 0 2 | a caption=c type=t 1:1 2:x recommended key=e/p group=h;b recommended profile=q@e group=h;
+2 0 3 | a caption=c description=d type=e/u@f 1:1 10:z 2:y required cleared group=g;b recommended profile=q@e group=h;
+2 0 4 | a caption=r type=t single 1:1 2:x optional key=r group=g;
+2 1 0 | a caption=c type=t 1:1 2:x required group=g;b array sibling=s recommended profile=q@e group=h;
+2 1 1 | b array sibling=s recommended profile=q@e group=h;
+2 1 2 | a recommended key=e/p group=h;b array sibling=s recommended profile=q@e group=h;
+2 1 3 | a description=d type=e/u@f 10:z 2:y cleared;b array sibling=s recommended profile=q@e group=h;
+2 1 4 | a caption=r single optional key=r;
+2 2 0 | a caption=c type=t 1:1 2:x required key=e/p group=g;b recommended profile=q@e group=h;
+2 2 1 | b array sibling=s recommended profile=q@e group=h;
+2 2 2 | a recommended key=e/p group=h;b recommended profile=q@e group=h;
+2 2 3 | a description=d type=e/u@f 10:z 2:y recommended cleared group=h;b recommended profile=q@e group=h;
+2 2 4 | a caption=r single optional key=r group=h;
+2 3 0 | a caption=c description=d type=t 1:1 10:z 2:x required cleared group=g;b recommended profile=q@e group=h;
+2 3 1 | b array sibling=s recommended profile=q@e group=h;
+2 3 2 | a description=d type=e/u@f 10:z 2:y recommended key=e/p group=h;b recommended profile=q@e group=h;
+2 3 3 | a description=d type=e/u@f 10:z 2:y recommended cleared group=h;b recommended profile=q@e group=h;
+2 3 4 | a caption=r description=d type=e/u@f single 10:z 2:y optional key=r group=h;
+2 4 0 | a caption=c type=t single 1:1 2:x required key=r group=g;
+2 4 1 | b array sibling=s;
+2 4 2 | a caption=r single recommended key=e/p group=h;b recommended profile=q@e group=h;
+2 4 3 | a caption=r description=d type=e/u@f single 10:z 2:y optional cleared group=h;
+2 4 4 | a caption=r single optional key=r group=h;
+3 0 0 | a caption=c description=d type=t 1:1 10:z 2:x required cleared group=g;
+3 0 1 | b array sibling=s;
+3 0 2 | a caption=c description=d type=t 1:1 10:z 2:x recommended key=e/p group=h;b recommended profile=q@e group=h;
+3 0 3 | a caption=c description=d type=e/u@f 1:1 10:z 2:y required cleared group=g;
+3 0 4 | a caption=r description=d type=t single 1:1 10:z 2:x optional key=r group=g;
+3 1 0 | a caption=c type=t 1:1 2:x required group=g;b array sibling=s;
+3 1 1 | b array sibling=s;
+3 1 2 | a recommended key=e/p group=h;b array sibling=s recommended profile=q@e group=h;
+3 1 3 | a description=d type=e/u@f 10:z 2:y cleared;b array sibling=s;
+3 1 4 | a caption=r single optional key=r;
+3 2 0 | a caption=c description=d type=t 1:1 10:z 2:x required key=e/p group=g;b recommended profile=q@e group=h;
+3 2 1 | b array sibling=s recommended profile=q@e group=h;
+3 2 2 | a description=d type=e/u@f 10:z 2:y recommended key=e/p group=h;b recommended profile=q@e group=h;
+3 2 3 | a description=d type=e/u@f 10:z 2:y recommended cleared group=h;b recommended profile=q@e group=h;
+3 2 4 | a caption=r description=d type=e/u@f single 10:z 2:y optional key=r group=h;
+3 3 0 | a caption=c description=d type=t 1:1 10:z 2:x required cleared group=g;
+3 3 1 | b array sibling=s;
+3 3 2 | a description=d type=e/u@f 10:z 2:y recommended key=e/p group=h;b recommended profile=q@e group=h;
+3 3 3 | a description=d type=e/u@f 10:z 2:y cleared;
+3 3 4 | a caption=r description=d type=e/u@f single 10:z 2:y optional key=r;
+3 4 0 | a caption=c description=d type=t single 1:1 10:z 2:x required key=r group=g;
+3 4 1 | b array sibling=s;
+3 4 2 | a caption=r description=d type=e/u@f single 10:z 2:y recommended key=e/p group=h;b recommended profile=q@e group=h;
+3 4 3 | a caption=r description=d type=e/u@f single 10:z 2:y optional cleared;
+3 4 4 | a caption=r description=d type=e/u@f single 10:z 2:y optional key=r;
+4 0 0 | a caption=c type=t single 1:1 2:x required key=r group=g;
+4 0 1 | b array sibling=s;
+4 0 2 | a caption=c type=t single 1:1 2:x recommended key=e/p group=h;b recommended profile=q@e group=h;
+4 0 3 | a caption=c description=d type=e/u@f single 1:1 10:z 2:y required cleared group=g;
+4 0 4 | a caption=r type=t single 1:1 2:x optional key=r group=g;
+4 1 0 | a caption=c type=t 1:1 2:x required group=g;b array sibling=s;
+4 1 1 | b array sibling=s;
+4 1 2 | a recommended key=e/p group=h;b array sibling=s recommended profile=q@e group=h;
+4 1 3 | a description=d type=e/u@f 10:z 2:y cleared;b array sibling=s;
+4 1 4 | a caption=r single optional key=r;
+4 2 0 | a caption=c type=t single 1:1 2:x required key=e/p group=g;b recommended profile=q@e group=h;
+4 2 1 | b array sibling=s recommended profile=q@e group=h;
+4 2 2 | a caption=r single recommended key=e/p group=h;b recommended profile=q@e group=h;
+4 2 3 | a caption=r description=d type=e/u@f single 10:z 2:y recommended cleared group=h;b recommended profile=q@e group=h;
+4 2 4 | a caption=r single optional key=r group=h;
+4 3 0 | a caption=c description=d type=t single 1:1 10:z 2:x required cleared group=g;
+4 3 1 | b array sibling=s;
+4 3 2 | a caption=r description=d type=e/u@f single 10:z 2:y recommended key=e/p group=h;b recommended profile=q@e group=h;
+4 3 3 | a caption=r description=d type=e/u@f single 10:z 2:y optional cleared;
+4 3 4 | a caption=r description=d type=e/u@f single 10:z 2:y optional key=r;
+4 4 0 | a caption=c type=t single 1:1 2:x required key=r group=g;
+4 4 1 | b array sibling=s;
+4 4 2 | a caption=r single recommended key=e/p group=h;b recommended profile=q@e group=h;
+4 4 3 | a caption=r description=d type=e/u@f single 10:z 2:y optional cleared;
+4 4 4 | a caption=r single optional key=r;";
 
 #[test]
 fn folds_as_a_plain_scan(rt: HostRuntime) -> Result<(), Fail> {
-    let layers = [
-        item(
-            "",
-            r#"{"attributes":{"a":{"caption":"c","enum":{"1":{},"2":{"caption":"x"}},"group":"g","requirement":"required","type":"t"}}}"#,
-        ),
-        item(
-            "e",
-            r#"{"attributes":{"a":null,"b":{"is_array":true,"sibling":"s"}}}"#,
-        ),
-        profile(
-            "e",
-            "e/p",
-            r#"{"annotations":{"group":"h","requirement":"recommended"},"attributes":{"a":{},"b":{"profile":"q"}},"name":"p"}"#,
-        ),
-        item(
-            "f",
-            r#"{"attributes":{"a":{"description":"d","enum":{"10":{"caption":"z"},"2":{"caption":"y"}},"profile":null,"type":"e/u"}}}"#,
-        ),
-        profile(
-            "",
-            "r",
-            r#"{"attributes":{"a":{"caption":"r","is_array":false,"requirement":"optional"},"b":null},"name":"r"}"#,
-        ),
-    ];
-    for x in layers {
-        for y in layers {
-            for z in layers {
-                let three = [x, y, z];
-                assert_eq!(rt;
-                    folded(&rt, &three)?.as_str(),
-                    scanned(&rt, &three)?.as_str()
-                );
-            }
-        }
+    for row in THREES.lines() {
+        let (places, wanted) = halves(row, " | ");
+        assert!(rt; is_right_at(rt.alloc(), places, wanted)?, "{row}");
     }
     Ok(())
 }

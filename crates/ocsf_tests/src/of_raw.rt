@@ -1,15 +1,12 @@
-use ocsf_raw::{Mark, RawError, RawFile, first_form, has_form, is_path, is_reference, shape};
-use ocsf_tree::{Requirement, Text, read};
+// The shapes of files, and what is read of them.
+ghost use Rattle.ocsf_tree.specs.Valid.{IsValid};
+
+use crate::shared::halves;
+use ocsf_raw::{RawError, RawFile, has_form, is_path, is_reference, shape};
+use ocsf_tree::{Tree, read};
 use std::alloc::{AllocError, Global};
 use std::process::Abort;
 use std::test::Fail;
-
-// A table is one text with a row a line: a proof's time grows with the literals of code, and not
-// with their length.
-
-fn halves<'a>(row: &'a str, mark: &str) -> (&'a str, &'a str) {
-    row.split_once(mark).unwrap_or_default()
-}
 
 // `ok` says that there is no fault, and a code and a name that this is the least one.
 fn is_wanted(found: &Result<RawFile, RawError>, want: &str) -> bool {
@@ -23,9 +20,15 @@ fn is_wanted(found: &Result<RawFile, RawError>, want: &str) -> bool {
     }
 }
 
+fn is_shape(alloc: Global, path: &str, tree: &Tree, want: &str) -> bool
+    requires { IsValid tree.now }
+{
+    is_wanted(&shape(alloc, path, tree), want)
+}
+
 fn is_found(alloc: Global, path: &str, text: &str, want: &str) -> Result<bool, Fail> {
     let tree = read(alloc, text.as_bytes())?;
-    Ok(is_wanted(&shape(alloc, path, &tree), want))
+    Ok(is_shape(alloc, path, &tree, want))
 }
 
 // A row is a path, the text of its file, and what is wanted.
@@ -207,31 +210,28 @@ fn filled(alloc: Global, text: &str, len: usize) -> Result<String, AllocError> {
     Ok(made)
 }
 
+// A row is a number of letters, and a row that has them in the place of its `*`: two texts of 2 MiB and
+// one byte more, and the longest and a longer text of some kinds.
+const LENGTHS: &str = r#"2097138 version.json | {"version":"*"} | ok
+2097139 version.json | {"version":"*"} | limit file
+8192 dictionary.json | {"types":{"attributes":{"t":{"regex":"*"}}}} | ok
+8193 dictionary.json | {"types":{"attributes":{"t":{"regex":"*"}}}} | shape /types/attributes/t/regex too_long
+100 objects/a.json | {"name":"*"} | ok
+101 objects/a.json | {"name":"*"} | shape /name bad_name
+0 objects/a.json | {"name":"*"} | shape /name bad_name
+100 objects/a.json | {"category":"e/*","name":"a"} | ok
+101 objects/a.json | {"category":"e/*","name":"a"} | shape /category bad_name"#;
+
+fn check_length(rt: &impl Abort, alloc: Global, row: &str) -> Result<(), Fail> {
+    let (count, row) = halves(row, " ");
+    let filled = filled(alloc, row, count.parse::<usize>().unwrap_or(0))?;
+    check_rows(rt, alloc, filled.as_str())
+}
+
 #[test]
 fn bounds_texts(rt: HostRuntime) -> Result<(), Fail> {
-    let rows = r#"version.json | {"version":"*"} | ok
-        version.json | {"version":"*"} | limit file
-        dictionary.json | {"types":{"attributes":{"t":{"regex":"*"}}}} | ok
-        dictionary.json | {"types":{"attributes":{"t":{"regex":"*"}}}} | shape /types/attributes/t/regex too_long
-        objects/a.json | {"name":"*"} | ok
-        objects/a.json | {"name":"*"} | shape /name bad_name
-        objects/a.json | {"name":"*"} | shape /name bad_name
-        objects/a.json | {"category":"e/*","name":"a"} | ok
-        objects/a.json | {"category":"e/*","name":"a"} | shape /category bad_name"#;
-    let lengths = [
-        2097152 - 14,
-        2097153 - 14,
-        8192,
-        8193,
-        100,
-        101,
-        0,
-        100,
-        101,
-    ];
-    for (row, len) in rows.lines().zip(lengths) {
-        let row = filled(rt.alloc(), row, len)?;
-        check_rows(&rt, rt.alloc(), row.as_str())?;
+    for row in LENGTHS.lines() {
+        check_length(&rt, rt.alloc(), row)?;
     }
     Ok(())
 }
@@ -262,120 +262,59 @@ fn bounds_paths(rt: HostRuntime) -> Result<(), Fail> {
     Ok(())
 }
 
+fn are_references(texts: &str, want: bool) -> bool {
+    for text in texts.split(' ') {
+        if is_reference(text) != want {
+            return false;
+        }
+    }
+    true
+}
+
+fn are_no_paths(texts: &str) -> bool {
+    for text in texts.split(' ') {
+        if is_path(text) {
+            return false;
+        }
+    }
+    true
+}
+
 #[test]
 fn tells_names_and_paths(rt: HostRuntime) {
-    for text in "a e/a:b".split(' ') {
-        assert!(rt; is_reference(text), "{text}");
-    }
+    assert!(rt; are_references("a e/a:b", true));
     // the empty text first
-    for text in " a/b/c a/".split(' ') {
-        assert!(rt; !is_reference(text), "{text}");
-    }
+    assert!(rt; are_references(" a/b/c a/", false));
     assert!(rt; is_path("a/b.c"));
-    for text in "a:b .a a//b 1/2/3/4/5/6/7/8/9".split(' ') {
-        assert!(rt; !is_path(text), "{text}");
-    }
+    assert!(rt; are_no_paths("a:b .a a//b 1/2/3/4/5/6/7/8/9"));
 }
 
-// How many changes an edit of the first form has.
-fn changes(alloc: Global, text: &str) -> Result<Option<usize>, Fail> {
-    let edit = read(alloc, text.as_bytes())?;
-    match first_form(alloc, &edit)? {
-        Some(changes) => Ok(Some(changes.len())),
-        None => Ok(None),
-    }
+fn is_told(alloc: Global, found: &Result<RawFile, RawError>, want: &str) -> Result<bool, Fail> {
+    Ok(format!(in alloc; "{found:?}")?.as_str() == want)
 }
 
-#[test]
-fn reads_the_first_form(rt: HostRuntime) -> Result<(), Fail> {
-    let text =
-        r#"[{"body":{"attributes":{"n":{"type":"string_t"}}},"put":"dictionary.json"},{"body":{"attributes":{"n":{}},"caption":"F","name":"file"},"put":"objects/file.json"}]"#;
-    assert_eq!(rt; changes(rt.alloc(), text)?, Some(2));
-    let others = r#"
-        {}
-        [{"remove":"objects/file.json"}]
-        [{"body":{"name":"f"},"put":"objects/g.json"}]
-    "#;
-    for text in others.split_whitespace() {
-        assert!(rt; changes(rt.alloc(), text)?.is_none(), "{text}");
-    }
-    Ok(())
+fn is_read_as(alloc: Global, path: &str, tree: &Tree, want: &str) -> Result<bool, Fail>
+    requires { IsValid tree.now }
+{
+    is_told(alloc, &shape(alloc, path, tree), want)
 }
 
-fn says(found: &Option<Text>, want: &str) -> bool {
-    match found {
-        Some(text) => text.as_str() == want,
-        None => false,
-    }
-}
-
-fn is_item(found: &Result<RawFile, RawError>) -> bool {
-    let Ok(RawFile::Item(file)) = found else {
-        return false;
-    };
-    let [entry] = file.attributes.as_slice() else {
-        return false;
-    };
-    says(&file.name, "a")
-        && says(&file.caption, "c")
-        && says(&file.description, "d")
-        && says(&file.parent, "b")
-        && says(&file.category, "k")
-        && file.uid == Some(5)
-        && file.profiles.len() == 1
-        && file.includes.len() == 1
-        && file.at_least_one.is_none()
-        && file.just_one.is_some()
-        && entry.removed
-        && entry.name.as_str() == "x"
-}
-
-fn reads_item(alloc: Global, text: &str) -> Result<bool, Fail> {
+fn is_read(alloc: Global, path: &str, text: &str, want: &str) -> Result<bool, Fail> {
     let tree = read(alloc, text.as_bytes())?;
-    Ok(is_item(&shape(alloc, "events/a.json", &tree)))
+    is_read_as(alloc, path, &tree, want)
 }
+
+// A row is a path, the text of its file, and each field of what is read from it.
+const FIELDS: &str =
+    r#"events/a.json | {"attributes":{"$include":"includes/i.json","x":null},"caption":"c","category":"k","constraints":{"just_one":[]},"description":"d","extends":"b","name":"a","profiles":["p"],"uid":5} | Ok(Item(ItemFile { side: Class, name: Some(Text { inner: "a" }), caption: Some(Text { inner: "c" }), description: Some(Text { inner: "d" }), parent: Some(Text { inner: "b" }), category: Some(Text { inner: "k" }), uid: Some(5), profiles: Row { items: [Text { inner: "p" }] }, includes: Row { items: [Text { inner: "includes/i.json" }] }, attributes: Row { items: [RawAttr { name: Text { inner: "x" }, removed: true, caption: None, description: None, type_name: None, is_array: None, members: Row { items: [] }, sibling: None, requirement: None, mark: Unsaid, group: None }] }, at_least_one: None, just_one: Some(Row { items: [] }) }))
+includes/i.json | {"attributes":{"y":{"caption":"c","description":"d","enum":{"$include":1,"2":{},"3":null},"group":"g","is_array":false,"profile":null,"requirement":"optional","sibling":"s","type":"e/t"}}} | Ok(Include(Row { items: [RawAttr { name: Text { inner: "y" }, removed: false, caption: Some(Text { inner: "c" }), description: Some(Text { inner: "d" }), type_name: Some(Text { inner: "e/t" }), is_array: Some(false), members: Row { items: [EnumMember { key: Text { inner: "2" }, caption: Text { inner: "2" }, description: None }] }, sibling: Some(Text { inner: "s" }), requirement: Some(Optional), mark: Cleared, group: Some(Text { inner: "g" }) }] }))"#;
 
 #[test]
-fn reads_items(rt: HostRuntime) -> Result<(), Fail> {
-    let text =
-        r#"{"attributes":{"$include":"includes/i.json","x":null},"caption":"c","category":"k","constraints":{"just_one":[]},"description":"d","extends":"b","name":"a","profiles":["p"],"uid":5}"#;
-    assert!(rt; reads_item(rt.alloc(), text)?);
-    Ok(())
-}
-
-fn is_entry(found: &Result<RawFile, RawError>) -> bool {
-    let Ok(RawFile::Include(entries)) = found else {
-        return false;
-    };
-    let [entry] = entries.as_slice() else {
-        return false;
-    };
-    let [member] = entry.members.as_slice() else {
-        return false;
-    };
-    says(&entry.caption, "c")
-        && says(&entry.description, "d")
-        && says(&entry.type_name, "e/t")
-        && says(&entry.sibling, "s")
-        && says(&entry.group, "g")
-        && !entry.removed
-        && entry.name.as_str() == "y"
-        && entry.is_array == Some(false)
-        && entry.requirement == Some(Requirement::Optional)
-        && matches!(&entry.mark, Mark::Cleared)
-        && member.key.as_str() == "2"
-        && member.caption.as_str() == "2"
-}
-
-fn reads_entry(alloc: Global, text: &str) -> Result<bool, Fail> {
-    let tree = read(alloc, text.as_bytes())?;
-    Ok(is_entry(&shape(alloc, "includes/i.json", &tree)))
-}
-
-#[test]
-fn reads_entries(rt: HostRuntime) -> Result<(), Fail> {
-    let text =
-        r#"{"attributes":{"y":{"caption":"c","description":"d","enum":{"$include":1,"2":{},"3":null},"group":"g","is_array":false,"profile":null,"requirement":"optional","sibling":"s","type":"e/t"}}}"#;
-    assert!(rt; reads_entry(rt.alloc(), text)?);
+fn reads_fields(rt: HostRuntime) -> Result<(), Fail> {
+    for row in FIELDS.lines() {
+        let (path, rest) = halves(row, " | ");
+        let (text, want) = halves(rest, " | ");
+        assert!(rt; is_read(rt.alloc(), path, text, want)?, "{row}");
+    }
     Ok(())
 }

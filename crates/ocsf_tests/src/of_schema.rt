@@ -1,12 +1,13 @@
 // A small schema, and what is found in it.
 ghost use Rattle.std.specs.Prelude.{◌≡◌, ◌++◌, codes, IfOk, All};
+ghost use Rattle.ocsf_tree.specs.Valid.{IsValid};
 ghost use Rattle.ocsf_tree.specs.ByName.{IsByName};
 ghost use Rattle.ocsf_tree.specs.Key.{side_text, key_text};
 ghost use Rattle.ocsf_schema.specs.Lookups.{IsByKey};
 
 use ocsf_edge::{MemorySink, Seq};
 use ocsf_schema::{Attr, Base, Item, Kind, Piece, Schema, SchemaParts, Steps, Target};
-use ocsf_tree::{Key, Requirement, Row, Shared, Side, Text, read};
+use ocsf_tree::{Key, Requirement, Row, Shared, Side, Text, Tree, read};
 use std::alloc::{AllocError, Global};
 use std::marker::Brand;
 use std::sync::ledger::{Blank, Ledger};
@@ -95,33 +96,45 @@ fn kinds(alloc: Global) -> Result<Row<Kind>, AllocError>
     Ok(made)
 }
 
+fn nothing(alloc: Global) -> Tree
+    ensures { IsValid result }
+{
+    Tree::Members(Row::new(alloc))
+}
+
+fn schema_of(
+    alloc: Global,
+    pieces: Row<Shared<Piece>>,
+    kinds: Row<Kind>,
+    profiles: Tree,
+) -> Result<Schema, Fail>
+    requires pieces { IsByKey pieces }
+    requires kinds { IsByName (λ kind. kind.name) kinds }
+    requires profiles { IsValid profiles }
+{
+    let parts = SchemaParts {
+        pieces,
+        kinds,
+        categories: nothing(alloc),
+        dictionary: nothing(alloc),
+        extensions: nothing(alloc),
+        profiles,
+        types: nothing(alloc),
+        version: Text::new(alloc),
+    };
+    Ok(Schema::of(alloc, parts)?)
+}
+
 fn schema<L: Ledger>(alloc: Global, blank: Blank) -> Result<Schema, Fail>
     requires name { blank.name ≡ L.name }
     requires parts { blank.parts ≡ L.parts }
     requires one { blank.parts ≡ 1 }
 {
     let mut steps: Steps<L> = Steps::open(blank);
-    let pieces = pieces(alloc, &mut steps)?;
-    let kinds = kinds(alloc)?;
-    let categories = read(alloc, b"{}")?;
-    let dictionary = read(alloc, b"{\"d\":{}}")?;
-    let extensions = read(alloc, b"{}")?;
     let profiles = read(alloc, b"{\"p\":{}}")?;
-    let types = read(alloc, b"{}")?;
-    let version = Text::of(alloc, "1")?;
-    Ok(Schema::of(
-        alloc,
-        SchemaParts {
-            pieces,
-            kinds,
-            categories,
-            dictionary,
-            extensions,
-            profiles,
-            types,
-            version,
-        },
-    )?)
+    let kinds = kinds(alloc)?;
+    let pieces = pieces(alloc, &mut steps)?;
+    schema_of(alloc, pieces, kinds, profiles)
 }
 
 fn sample(alloc: Global) -> Result<Schema, Fail> {
@@ -150,13 +163,6 @@ fn has_items(alloc: Global, schema: &Schema) -> Result<bool, AllocError> {
     Ok(class == Some(true) && last == Some(false) && object == Some(false) && none.is_none())
 }
 
-#[test]
-fn finds_items(rt: HostRuntime) -> Result<(), Fail> {
-    let schema = sample(rt.alloc())?;
-    assert!(rt; has_items(rt.alloc(), &schema)?);
-    Ok(())
-}
-
 fn has_classes(schema: &Schema) -> bool {
     match schema.class_by_uid(7) {
         Some(item) => {
@@ -181,11 +187,22 @@ fn is_written(alloc: Global, schema: &Schema) -> bool {
     schema.write_to(&mut sink).is_ok() && sink.written().len() == schema.printed_len()
 }
 
+fn has_all(alloc: Global, schema: &Schema) -> Result<bool, Fail> {
+    Ok(
+        has_items(alloc, schema)?
+            && has_classes(schema)
+            && has_parts(schema)
+            && is_written(alloc, schema),
+    )
+}
+
+fn is_right(alloc: Global) -> Result<bool, Fail> {
+    let schema = sample(alloc)?;
+    has_all(alloc, &schema)
+}
+
 #[test]
-fn finds_parts(rt: HostRuntime) -> Result<(), Fail> {
-    let schema = sample(rt.alloc())?;
-    assert!(rt; has_classes(&schema));
-    assert!(rt; has_parts(&schema));
-    assert!(rt; is_written(rt.alloc(), &schema));
+fn finds_what_it_holds(rt: HostRuntime) -> Result<(), Fail> {
+    assert!(rt; is_right(rt.alloc())?);
     Ok(())
 }

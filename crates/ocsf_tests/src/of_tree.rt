@@ -48,11 +48,21 @@ const VALUES: &str = r#" { "b" : [ true , false ] , "a" : { } }  | {"a":{},"b":[
 1.0 | at
 [1,1e2] | at/1
 {"b":1.5,"a":[0,{"c/d~":0.5}]} | at/a/1/c~1d~0
+[{"put":"version.json","body":{"version":1.0}}] | at/0/body/version
 [1,[2.5],3.5] | at/1/0
 "\u0041\/\b\f\n\r\t\"\\" | "A/\b\f\n\r\t\"\\"
 "\ud83d\ude00" | "😀"
 "é" | "é"
 {"\u0061\n":""} | {"a\n":""}"#;
+
+// Spaces, and letters that are told by their numbers.
+fn reads_bytes(alloc: Global) -> Result<bool, AllocError> {
+    let numbers = b"\"\\u0000\\u001F\\u007f\"";
+    Ok(
+        is_read(alloc, b"\t\n\r null \t\n\r", b"null")?
+            && is_read(alloc, numbers, b"\"\\u0000\\u001f\x7f\"")?,
+    )
+}
 
 #[test]
 fn reads_values(rt: HostRuntime) -> Result<(), Fail> {
@@ -63,14 +73,7 @@ fn reads_values(rt: HostRuntime) -> Result<(), Fail> {
             "{row}"
         );
     }
-    assert!(rt; is_read(rt.alloc(), b"\t\n\r null \t\n\r", b"null")?);
-    assert!(rt;
-        is_read(
-            rt.alloc(),
-            b"\"\\u0000\\u001F\\u007f\"",
-            b"\"\\u0000\\u001f\x7f\""
-        )?
-    );
+    assert!(rt; reads_bytes(rt.alloc())?);
     Ok(())
 }
 
@@ -80,6 +83,7 @@ fn is_refused(alloc: Global, text: &[u8]) -> Result<bool, AllocError> {
 
 // the empty text first
 const NO_JSON: &str = r#"
+{
 1 2
 {}]
 [1,]
@@ -204,10 +208,18 @@ fn trees_are_made(alloc: Global) -> Result<bool, Fail> {
     Ok(is_same(&tree, &Tree::Members(members)))
 }
 
+fn shared(alloc: Global, tree: &Tree) -> Result<Shared<Tree>, AllocError> {
+    Shared::new(alloc, tree.copy()?)?.try_clone()
+}
+
+fn is_shared(alloc: Global, tree: &Tree) -> Result<bool, Fail> {
+    let shared = shared(alloc, tree)?;
+    Ok(is_same(tree, shared.get()) && matches!(shared.get().at("b"), Some(Tree::Whole(7))))
+}
+
 fn trees_are_shared(alloc: Global) -> Result<bool, Fail> {
     let tree = read(alloc, b"{\"b\":7}")?;
-    let shared = Shared::new(alloc, tree.copy()?)?.try_clone()?;
-    Ok(is_same(&tree, shared.get()) && matches!(tree.at("b"), Some(Tree::Whole(7))))
+    is_shared(alloc, &tree)
 }
 
 fn is_quoted(alloc: Global, text: &str, want: &str) -> Result<bool, AllocError> {

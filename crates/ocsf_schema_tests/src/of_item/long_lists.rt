@@ -1,14 +1,12 @@
 // Chains and lists of attributes at their bounds.
-use super::{halves, is_built_over_shared, key_of};
+use super::check_changes;
+use crate::shared::halves;
 use std::alloc::{AllocError, Global};
 use std::process::Abort;
 use std::test::Fail;
 
 fn number(text: &str) -> u32 {
-    match text.parse::<u32>() {
-        Ok(number) => number,
-        Err(_) => 0,
-    }
+    text.parse::<u32>().unwrap_or(0)
 }
 
 // A key of a chain; each extends the next one.
@@ -40,42 +38,39 @@ fn push_chain(text: &mut String, last: u32, parent: &str) -> Result<(), AllocErr
     push_last(text, last, parent)
 }
 
-// The number of the last key of a chain that begins with k10, what that key extends, a key, and what is
+// The number of the last key of a chain that begins with k10, what that key extends, and a key with what is
 // built for it.
-const CHAINS: &str = r#"41 |  | object:k10 | {"attributes":{},"extends":"k11"}
-42 |  | object:k10 | chain_limit object:k10 32
-42 |  | object:k11 | {"attributes":{},"extends":"k12"}
-41 | gone | object:k10 | parent_unknown object:k41 gone
-42 | gone | object:k10 | chain_limit object:k10 32
-42 | gone | object:k11 | parent_unknown object:k42 gone
-41 | k10 | object:k10 | extends_cycle object:k10 k11
-41 | k10 | object:k30 | extends_cycle object:k10 k11
-42 | k10 | object:k10 | chain_limit object:k10 32
-42 | k10 | object:k30 | chain_limit object:k30 32
-42 | k11 | object:k10 | chain_limit object:k10 32
-42 | k11 | object:k11 | extends_cycle object:k11 k12
-10 | k10 | object:k10 | extends_cycle object:k10 k10
-11 | k10 | object:k11 | extends_cycle object:k10 k11
-12 | k12 | object:k10 | extends_cycle object:k12 k12
-12 | k11 | object:k10 | extends_cycle object:k11 k12
-13 | k11 | object:k10 | extends_cycle object:k11 k12
-13 | k11 | object:k13 | extends_cycle object:k11 k12"#;
+const CHAINS: &str = r#"41 |  | object:k10 {"attributes":{},"extends":"k11"}
+42 |  | object:k10 chain_limit object:k10 32
+42 |  | object:k11 {"attributes":{},"extends":"k12"}
+41 | gone | object:k10 parent_unknown object:k41 gone
+42 | gone | object:k10 chain_limit object:k10 32
+42 | gone | object:k11 parent_unknown object:k42 gone
+41 | k10 | object:k10 extends_cycle object:k10 k11
+41 | k10 | object:k30 extends_cycle object:k10 k11
+42 | k10 | object:k10 chain_limit object:k10 32
+42 | k10 | object:k30 chain_limit object:k30 32
+42 | k11 | object:k10 chain_limit object:k10 32
+42 | k11 | object:k11 extends_cycle object:k11 k12
+10 | k10 | object:k10 extends_cycle object:k10 k10
+11 | k10 | object:k11 extends_cycle object:k10 k11
+12 | k12 | object:k10 extends_cycle object:k12 k12
+12 | k11 | object:k10 extends_cycle object:k11 k12
+13 | k11 | object:k10 extends_cycle object:k11 k12
+13 | k11 | object:k13 extends_cycle object:k11 k12"#;
 
-fn is_chain(alloc: Global, line: &str) -> Result<bool, Fail> {
+fn check_chain(rt: &impl Abort, alloc: Global, line: &str) -> Result<(), Fail> {
     let (last, rest) = halves(line, " | ");
-    let (parent, rest) = halves(rest, " | ");
-    let (key, wanted) = halves(rest, " | ");
-    let key = key_of(alloc, key)?;
-    let mut text = String::new(alloc);
-    push_chain(&mut text, number(last), parent)?;
-    is_built_over_shared(alloc, text.as_str(), &key, wanted)
+    let (parent, row) = halves(rest, " | ");
+    let mut changes = String::new(alloc);
+    push_chain(&mut changes, number(last), parent)?;
+    check_changes(rt, alloc, changes.as_str(), row)
 }
 
 #[test]
 fn follows_chains_to_their_bounds(rt: HostRuntime) -> Result<(), Fail> {
     for line in CHAINS.lines() {
-        let is_right = is_chain(rt.alloc(), line)?;
-        assert!(rt; is_right, "at {line}");
+        check_chain(&rt, rt.alloc(), line)?;
     }
     Ok(())
 }
@@ -102,16 +97,20 @@ fn push_objects(text: &mut String, last: u32) -> Result<(), AllocError> {
     )
 }
 
-// The fragment with the attributes from the first to the last, or another end alone.
-fn push_wanted(text: &mut String, first: u32, last: u32, end: &str) -> Result<(), AllocError> {
+// A key and its fragment with the attributes from the first to the last, or with another end alone.
+fn push_row(
+    text: &mut String,
+    key: &str,
+    first: u32,
+    last: u32,
+    end: &str,
+) -> Result<(), AllocError> {
+    text.push_str(key)?;
+    text.push(' ')?;
     if end.starts_with('}') {
+        let body = r#""requirement":"optional","type":"string_t""#;
         text.push_str(r#"{"attributes":{"#)?;
-        push_names(
-            text,
-            first,
-            last,
-            r#""requirement":"optional","type":"string_t""#,
-        )?;
+        push_names(text, first, last, body)?;
     }
     text.push_str(end)
 }
@@ -123,23 +122,21 @@ const COUNTS: &str = r#"2023 | object:o | 1000 | }}
 2024 | object:p | 1001 | },"extends":"o"}
 2025 | object:p | 1001 | attribute_limit object:p 1024"#;
 
-fn is_count(alloc: Global, line: &str) -> Result<bool, Fail> {
+fn check_count(rt: &impl Abort, alloc: Global, line: &str) -> Result<(), Fail> {
     let (last, rest) = halves(line, " | ");
     let (key, rest) = halves(rest, " | ");
     let (first, end) = halves(rest, " | ");
-    let key = key_of(alloc, key)?;
-    let mut wanted = String::new(alloc);
-    push_wanted(&mut wanted, number(first), number(last), end)?;
-    let mut text = String::new(alloc);
-    push_objects(&mut text, number(last))?;
-    is_built_over_shared(alloc, text.as_str(), &key, wanted.as_str())
+    let mut row = String::new(alloc);
+    push_row(&mut row, key, number(first), number(last), end)?;
+    let mut changes = String::new(alloc);
+    push_objects(&mut changes, number(last))?;
+    check_changes(rt, alloc, changes.as_str(), row.as_str())
 }
 
 #[test]
 fn counts_attributes(rt: HostRuntime) -> Result<(), Fail> {
     for line in COUNTS.lines() {
-        let is_right = is_count(rt.alloc(), line)?;
-        assert!(rt; is_right, "at {line}");
+        check_count(&rt, rt.alloc(), line)?;
     }
     Ok(())
 }
