@@ -215,13 +215,16 @@ fn is_sure(folder: &mut SureFolder) -> bool {
         && reads(folder, ("d", b"x"), 9, "")
 }
 
-fn files(alloc: Global) -> Result<Seq<KeptFile>, Fail> {
+// A store after the moves.
+fn filled(alloc: Global) -> Result<SureKeeper, Fail> {
     let mut keeper = empty(alloc);
-    Ok(stored(alloc, &mut keeper)?.files)
+    store(alloc, &mut keeper)?;
+    Ok(keeper)
 }
 
 fn sure_folder(alloc: Global) -> Result<bool, Fail> {
-    let mut folder = SureFolder::new(files(alloc)?);
+    let mut keeper = filled(alloc)?;
+    let mut folder = SureFolder::new(keeper.load()?.files);
     Ok(is_sure(&mut folder))
 }
 
@@ -237,7 +240,8 @@ fn fails(folder: &mut MemoryFolder) -> bool {
 
 fn failing_folder(alloc: Global) -> Result<bool, Fail> {
     let failing = numbers(alloc, &[2, 4])?;
-    let mut folder = MemoryFolder::new(files(alloc)?, failing);
+    let mut keeper = filled(alloc)?;
+    let mut folder = MemoryFolder::new(keeper.load()?.files, failing);
     Ok(fails(&mut folder))
 }
 

@@ -145,10 +145,15 @@ fn keeps_what_each_type_asks(rt: HostRuntime) -> Result<(), Fail> {
 
 // ---- the values that types take
 
-fn taken(alloc: Global, base: &str, value: &Tree) -> &'static str {
-    match kind_of(alloc, base, &[]) {
-        Ok(kind) if fits_base(&kind, value) => "taken",
-        Ok(_) => "not taken",
+fn taken(made: &Result<Kind, KindError>, value: &Tree) -> &'static str {
+    match made {
+        Ok(kind) => {
+            if fits_base(kind, value) {
+                "taken"
+            } else {
+                "not taken"
+            }
+        }
         Err(_) => "no kind",
     }
 }
@@ -157,7 +162,7 @@ fn is_taken(alloc: Global, row: &str) -> Result<bool, Fail> {
     let (base, rest) = halves(row, " | ");
     let (text, wanted) = halves(rest, " | ");
     let value = read(alloc, text.as_bytes())?;
-    Ok(taken(alloc, base, &value) == wanted)
+    Ok(taken(&kind_of(alloc, base, &[]), &value) == wanted)
 }
 
 const VALUES: &str = r#"boolean_t | false | taken

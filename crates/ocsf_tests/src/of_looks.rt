@@ -290,28 +290,23 @@ fn line(alloc: Global, bundle: &Bundle, what: &str) -> Result<String, AllocError
     }
 }
 
-fn is_seen(alloc: Global, bundle: &Bundle, what: &str, want: &str) -> Result<bool, AllocError> {
-    let line = line(alloc, bundle, what)?;
-    Ok(line.as_str() == if want == "-" { "" } else { want })
-}
-
-// What the last of the rows that speak of it says.
-fn wanted<'a>(rows: &'a str, what: &str) -> &'a str {
-    let mut wanted = "";
+// Whether the line is what the last of the rows that speak of it says.
+fn is_seen(line: &str, rows: &str, what: &str) -> bool {
+    let mut seen = line.is_empty();
     for row in rows.lines() {
         let (other, want) = halves(row, " => ");
         if other == what {
-            wanted = want;
+            seen = line == if want == "-" { "" } else { want };
         }
     }
-    wanted
+    seen
 }
 
 fn check(rt: &impl Abort, alloc: Global, bundle: &Bundle, rows: &str) -> Result<(), AllocError> {
     for row in LOOKS.lines() {
         let (what, _) = halves(row, " => ");
-        let want = wanted(rows, what);
-        assert!(rt; is_seen(alloc, bundle, what, want)?, "{what} is not {want}");
+        let line = line(alloc, bundle, what)?;
+        assert!(rt; is_seen(line.as_str(), rows, what), "{what} isn't {line}");
     }
     Ok(())
 }

@@ -208,18 +208,10 @@ fn trees_are_made(alloc: Global) -> Result<bool, Fail> {
     Ok(is_same(&tree, &Tree::Members(members)))
 }
 
-fn shared(alloc: Global, tree: &Tree) -> Result<Shared<Tree>, AllocError> {
-    Shared::new(alloc, tree.copy()?)?.try_clone()
-}
-
-fn is_shared(alloc: Global, tree: &Tree) -> Result<bool, Fail> {
-    let shared = shared(alloc, tree)?;
-    Ok(is_same(tree, shared.get()) && matches!(shared.get().at("b"), Some(Tree::Whole(7))))
-}
-
 fn trees_are_shared(alloc: Global) -> Result<bool, Fail> {
     let tree = read(alloc, b"{\"b\":7}")?;
-    is_shared(alloc, &tree)
+    let shared = Shared::new(alloc, tree.copy()?)?.try_clone()?;
+    Ok(is_same(&tree, shared.get()) && matches!(tree.at("b"), Some(Tree::Whole(7))))
 }
 
 fn is_quoted(alloc: Global, text: &str, want: &str) -> Result<bool, AllocError> {
