@@ -37,7 +37,7 @@ fn extension_path(alloc: Global, name: &str) -> Result<Text, AllocError>
     let mut path = String::from_str(alloc, "extensions/")?;
     path.push_str(name)?;
     path.push_str("/extension.json")?;
-    Ok(Text::from_string(path))
+    Text::from_string(path)
 }
 
 pub fn extension_said(raw: &RawFile) -> Option<&ExtFile>

@@ -45,7 +45,7 @@ fn remove_file(
     Err(RawError::Fault(Fault {
         code: Code::Absent,
         subject: path.copy()?,
-        name: Text::new(alloc),
+        name: Text::of(alloc, "")?,
     }))
 }
 

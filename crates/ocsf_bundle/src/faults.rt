@@ -12,7 +12,7 @@ pub fn labelled(alloc: Global, label: &str, name: &str) -> Result<Text, AllocErr
     let mut text = String::from_str(alloc, label)?;
     text.push(':')?;
     text.push_str(name)?;
-    Ok(Text::from_string(text))
+    Text::from_string(text)
 }
 
 pub fn fault(alloc: Global, code: Code, subject: Text, name: &str) -> Result<Fault, AllocError>

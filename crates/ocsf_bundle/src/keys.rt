@@ -18,7 +18,7 @@ pub fn key_of(alloc: Global, active: &ActiveFile, name: &str) -> Result<Text, Al
             let mut key = String::from_str(alloc, ext.name.as_str())?;
             key.push('/')?;
             key.push_str(name)?;
-            Ok(Text::from_string(key))
+            Text::from_string(key)
         }
         None => Text::of(alloc, name),
     }

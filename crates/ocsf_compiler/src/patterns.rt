@@ -47,7 +47,7 @@ fn refusal(alloc: Global, entry: &TypeEntry) -> Result<Fault, AllocError>
     let name = Text::of(alloc, "")?;
     Ok(Fault {
         code: Code::PatternRefused,
-        subject: Text::from_string(subject),
+        subject: Text::from_string(subject)?,
         name,
     })
 }

@@ -36,7 +36,7 @@ fn decimal(alloc: Global, number: u64) -> Result<Text, AllocError>
     ensures { IfOk result (λ made. made ≡ decimal number) }
 {
     let made = format!(in alloc; "{number}")?;
-    Ok(Text::from_string(made))
+    Text::from_string(made)
 }
 
 fn clash_of(

@@ -50,7 +50,8 @@ pub(crate) fn members_of(
     ensures { IfOk result (λ made. made ≡ members_of said.now row.now) }
 {
     let members = members_joined(alloc, row.attr.members.as_slice(), said.members.as_slice())?;
-    let made = first_of_each(alloc, members.as_slice())?;
+    let mut made = first_of_each(alloc, members.as_slice())?;
+    made.shrink_to_fit();
     Ok(made)
 }
 

@@ -75,7 +75,7 @@ fn decimal(alloc: Global, number: u64) -> Result<Text, AllocError>
     ensures { IfOk result (λ made. made ≡ decimal number) }
 {
     let made = format!(in alloc; "{number}")?;
-    Ok(Text::from_string(made))
+    Text::from_string(made)
 }
 
 fn one_member(alloc: Global, number: u64, caption: Text) -> Result<Row<EnumMember>, AllocError>
@@ -122,7 +122,7 @@ fn type_member(
     text.push_str(activity.caption.as_str())?;
     Ok(EnumMember {
         key,
-        caption: Text::from_string(text),
+        caption: Text::from_string(text)?,
         description: None,
     })
 }

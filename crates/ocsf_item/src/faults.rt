@@ -42,9 +42,9 @@ fn type_name(alloc: Global, name: &str, written: Option<TypeLent<'_>>) -> Result
     text.push_str(" ")?;
     if let Some(written) = written {
         text.push_str(written.name.as_str())?;
-        return Ok(Text::from_string(text));
+        return Text::from_string(text);
     }
-    Ok(Text::from_string(text))
+    Text::from_string(text)
 }
 
 /// The least fault with that of an attribute, if it has one.

@@ -29,7 +29,7 @@ pub(crate) fn in_extension(alloc: Global, ext: &str, name: &str) -> Result<Text,
     let mut made = String::from_str(alloc, ext)?;
     made.push_str("/")?;
     made.push_str(name)?;
-    Ok(Text::from_string(made))
+    Text::from_string(made)
 }
 
 /// The key of what a file of that extension, empty for core, names.
@@ -98,7 +98,7 @@ pub(crate) fn include_cells(alloc: Global, ext: &str, path: &str) -> Result<Row<
         })?;
     }
     cells.push(Cell::Include {
-        from: Text::new(alloc),
+        from: Text::of(alloc, "")?,
         path: Text::of(alloc, path)?,
     })?;
     Ok(cells)

@@ -74,8 +74,9 @@ pub(crate) fn item_parts<B: Shows>(
     let class = class_parts(alloc, bundle, key, &own, given.category, rows, &mut reads)?;
     let at_least_one = list_or_none(alloc, given.at_least_one);
     let just_one = list_or_none(alloc, given.just_one);
+    let attrs = Row::with_capacity(alloc, rows.len())?;
     let mut joined = Joined {
-        attrs: Row::new(alloc),
+        attrs,
         reads,
         least: class.least,
     };

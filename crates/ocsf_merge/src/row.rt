@@ -36,8 +36,8 @@ fn nothing(alloc: Global, name: &Text) -> Result<Spoken, AllocError>
             mark: Mark::Unsaid,
             group: None,
         },
-        type_from: Text::new(alloc),
-        mark_from: Text::new(alloc),
+        type_from: Text::of(alloc, "")?,
+        mark_from: Text::of(alloc, "")?,
         mark_is_key: false,
     })
 }
@@ -67,7 +67,7 @@ fn mark_after(
             if is_profile {
                 Ok(MarkSaid {
                     mark: Mark::Named(Text::of(alloc, profile_key)?),
-                    from: Text::new(alloc),
+                    from: Text::of(alloc, "")?,
                     is_key: true,
                 })
             } else {
@@ -80,7 +80,7 @@ fn mark_after(
         }
         Mark::Cleared => Ok(MarkSaid {
             mark: Mark::Cleared,
-            from: Text::new(alloc),
+            from: Text::of(alloc, "")?,
             is_key: false,
         }),
         Mark::Named(name) => Ok(MarkSaid {

@@ -32,7 +32,7 @@ pub fn entries<T: Entry>(alloc: Global, members: &[Member]) -> Result<Row<T>, Al
     requires { IsValidMembers members.now }
     ensures { IfOk result (λ made. made ≡ filter_map T.given_by members.now) }
 {
-    let mut made = Row::new(alloc);
+    let mut made = Row::with_capacity(alloc, members.len())?;
     for member in members {
         let Some(entry) = T::from_member(alloc, member)? else {
             continue;

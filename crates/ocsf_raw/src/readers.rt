@@ -46,7 +46,7 @@ pub fn copied_or_empty(alloc: Global, tree: &Tree, name: &str) -> Result<Text, A
 {
     match text_at(name, tree) {
         Some(text) => text.copy(),
-        None => Ok(Text::new(alloc)),
+        None => Text::of(alloc, ""),
     }
 }
 

@@ -1,3 +1,4 @@
 pub mod Joined
 pub mod JoinedItems
+pub mod Pieces
 pub mod ValidFragments

@@ -8,6 +8,7 @@ mod parts;
 mod piece;
 mod printing;
 mod records;
+mod rope;
 mod schema;
 mod steps;
 

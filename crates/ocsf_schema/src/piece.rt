@@ -4,7 +4,7 @@ ghost use Rattle.ocsf_tree.specs.ByName.{IsByName};
 
 use crate::fragment::fragment_of;
 use crate::{Item, Steps};
-use ocsf_tree::{Row, print};
+use ocsf_tree::{Row, Shared, print};
 use std::alloc::{AllocError, Global};
 use std::marker::Model;
 use std::sync::ledger::Ledger;
@@ -13,7 +13,7 @@ use std::sync::ledger::Ledger;
 #[derive(Drop)]
 pub struct Piece {
     item: Item,
-    text: Row<u8>,
+    text: Shared<Row<u8>>,
 }
 
 impl Model for Piece {
@@ -47,7 +47,7 @@ impl Piece {
     {
         steps.tick();
         let tree = fragment_of(alloc, &item)?;
-        let text = print(alloc, &tree)?;
+        let text = Shared::new(alloc, print(alloc, &tree)?)?;
         Ok(Piece { item, text })
     }
 
@@ -62,6 +62,13 @@ impl Piece {
     pub fn text(&self) -> &[u8]
         ensures { result.now ≡ fragment self.now }
     {
-        self.text.as_slice()
+        self.text.get().as_slice()
+    }
+
+    /// The same, with one more owner.
+    pub(crate) fn share_text(&self) -> Result<Shared<Row<u8>>, AllocError>
+        ensures { IfOk result (λ text. text ≡ fragment self.now) }
+    {
+        self.text.share()
     }
 }

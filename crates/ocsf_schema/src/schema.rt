@@ -10,8 +10,9 @@ ghost use Rattle.ocsf_tree.specs.Valid.{IsValid};
 
 use crate::lookup::{classes_by_uid, find_by_key};
 use crate::printing::schema_bytes;
+use crate::rope::Rope;
 use crate::{Attr, Item, Kind, Piece, SchemaParts};
-use ocsf_edge::{Failed, Sink, write_all};
+use ocsf_edge::{Failed, Sink};
 use ocsf_tree::{Key, Shared, find_by_name};
 use std::alloc::{AllocError, Global};
 use std::collections::BTreeMap;
@@ -21,12 +22,13 @@ use std::marker::Model;
 #[derive(Drop)]
 pub struct Schema {
     parts: SchemaParts,
-    text: Vec<u8>,
+    text: Rope,
+    printed: usize,
     classes: BTreeMap<u64, Shared<Piece>>,
 }
 
 impl Model for Schema {
-    ghost use Rattle.std.specs.Prelude.{◌≡◌};
+    ghost use Rattle.std.specs.Prelude.{◌≡◌, length};
     ghost use Rattle.ocsf_schema.specs.declared.parts.SchemaParts.{SchemaParts};
     ghost use Rattle.std.specs.Coded.{codes};
     ghost use Rattle.ocsf_tree.specs.contracts.tree.Tree as tree;
@@ -45,7 +47,8 @@ impl Model for Schema {
 
     ghost view = { λ schema. schema.parts };
 
-    ghost invariant = { λ schema. (schema.text.items ≡ schema_text schema.parts)
+    ghost invariant = { λ schema. (schema.text ≡ schema_text schema.parts)
+        × (schema.printed ≡ length (schema_text schema.parts))
         × ((uid : ℕ) → get nat_cmp schema.classes uid ≡ class_at uid schema.parts.pieces)
         × IsByKey schema.parts.pieces
         × IsByName (λ kind. kind.name) schema.parts.kinds
@@ -69,10 +72,12 @@ impl Schema {
         ensures { IfOk result (λ schema. schema ≡ parts) }
     {
         let text = schema_bytes(alloc, &parts)?;
+        let printed = text.len()?;
         let classes = classes_by_uid(alloc, parts.pieces.as_slice())?;
         Ok(Schema {
             parts,
             text,
+            printed,
             classes,
         })
     }
@@ -122,7 +127,7 @@ impl Schema {
     pub fn printed_len(&self) -> usize
         ensures { result ≡ length (schema_text self.now) }
     {
-        self.text.len()
+        self.printed
     }
 
     /// Writes the printed schema, a compact JSON object and a line feed. After a failure a front of it was written.
@@ -131,6 +136,6 @@ impl Schema {
         ensures err { OnErr result (AppendsPrefix (K.written sink.old) (K.written sink.new) (schema_text self.now)) }
         ensures cause { HasCause (K.write_faults sink.old) (K.write_faults sink.new) result }
     {
-        write_all(sink, &self.text)
+        self.text.write_to(sink)
     }
 }

@@ -120,7 +120,7 @@ fn schema_of(
         extensions: nothing(alloc),
         profiles,
         types: nothing(alloc),
-        version: Text::new(alloc),
+        version: Text::of(alloc, "")?,
     };
     Ok(Schema::of(alloc, parts)?)
 }

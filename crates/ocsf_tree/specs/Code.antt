@@ -1,7 +1,7 @@
 -- The words of the codes of faults.
 use Rattle.std.specs.Prelude.{ℕ, List, codes}
 use Rattle.ocsf_tree.specs.declared.fault.Code.{Code}
-use Rattle.ocsf_tree.specs.declared.fault.Code.TheVariants.{NotJson, NumberNotWhole, PathUnknown, Shape, Limit, Absent, NotBuiltYet, TooMany, ExtensionUnknown, KeyClash, UidTaken, PatchTarget, TypeUnknown, TypeCycle, ChainLimit, ParentUnknown, ExtendsCycle, IncludeUnknown, ProfileUnknown, AttributeUnknown, KindUnknown, CategoryUnknown, ConstraintUnknown, EnumKey, AttributeLimit, UidClash, TooLarge, PatternRefused, LastRevision}
+use Rattle.ocsf_tree.specs.declared.fault.Code.TheVariants.{NotJson, NumberNotWhole, PathUnknown, Shape, Limit, Absent, TooMany, ExtensionUnknown, KeyClash, UidTaken, PatchTarget, TypeUnknown, TypeCycle, ChainLimit, ParentUnknown, ExtendsCycle, IncludeUnknown, ProfileUnknown, AttributeUnknown, KindUnknown, CategoryUnknown, ConstraintUnknown, EnumKey, AttributeLimit, UidClash, TooLarge, PatternRefused, LastRevision}
 
 abbrev pub code_text : Code → List ℕ
 code_text NotJson = codes "not_json"
@@ -10,7 +10,6 @@ code_text PathUnknown = codes "path_unknown"
 code_text Shape = codes "shape"
 code_text Limit = codes "limit"
 code_text Absent = codes "absent"
-code_text NotBuiltYet = codes "not_built_yet"
 code_text TooMany = codes "too_many"
 code_text ExtensionUnknown = codes "extension_unknown"
 code_text KeyClash = codes "key_clash"

@@ -15,7 +15,6 @@ rank code.PathUnknown = 3
 rank code.Shape = 4
 rank code.Limit = 5
 rank code.Absent = 6
-rank code.NotBuiltYet = 7
 rank code.TooMany = 10
 rank code.ExtensionUnknown = 11
 rank code.KeyClash = 12

@@ -22,8 +22,6 @@ pub enum Code {
     Limit,
     /// A file is to be removed that isn't there.
     Absent,
-    /// The layer that would judge this isn't built yet.
-    NotBuiltYet,
     /// The bundle is larger than it may be.
     TooMany,
     /// An enabled extension has no extension file.
@@ -93,7 +91,6 @@ impl Code {
             Code::Shape => "shape",
             Code::Limit => "limit",
             Code::Absent => "absent",
-            Code::NotBuiltYet => "not_built_yet",
             Code::TooMany => "too_many",
             Code::ExtensionUnknown => "extension_unknown",
             Code::KeyClash => "key_clash",
@@ -135,7 +132,6 @@ impl Code {
             Code::Shape => 4,
             Code::Limit => 5,
             Code::Absent => 6,
-            Code::NotBuiltYet => 7,
             Code::TooMany => 10,
             Code::ExtensionUnknown => 11,
             Code::KeyClash => 12,

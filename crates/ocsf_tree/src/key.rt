@@ -43,7 +43,7 @@ impl Key {
         let mut out = String::from_str(self.name.allocator(), self.side.as_str())?;
         out.push(':')?;
         out.push_str(self.name.as_str())?;
-        Ok(Text::from_string(out))
+        Text::from_string(out)
     }
 }
 

@@ -99,7 +99,7 @@ pub fn pointer(alloc: Global, place: &Place) -> Result<Text, AllocError>
     for step in place.steps.as_slice() {
         push_step(alloc, &mut out, step)?;
     }
-    Ok(Text::from_string(out))
+    Text::from_string(out)
 }
 
 impl TryClone for Step {

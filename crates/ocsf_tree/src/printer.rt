@@ -21,7 +21,9 @@ pub fn print(alloc: Global, tree: &Tree) -> Result<Row<u8>, AllocError>
 {
     let mut out = Writer::new(Vec::new(alloc));
     write(tree, &mut out)?;
-    Ok(Row::from_vec(out.into_inner()))
+    let mut bytes = Row::from_vec(out.into_inner());
+    bytes.shrink_to_fit();
+    Ok(bytes)
 }
 
 /// The text in quotation marks, as it stands in a compact text.

@@ -80,7 +80,7 @@ fn tree_of(alloc: Global, value: Value) -> Result<Tree, AllocError>
         Value::Null => Ok(Tree::Null),
         Value::Bool(flag) => Ok(Tree::Flag(flag)),
         Value::Number(number) => Ok(Tree::Whole(whole_of(&number))),
-        Value::String(words) => Ok(Tree::Words(Text::from_string(words))),
+        Value::String(words) => Ok(Tree::Words(Text::from_string(words)?)),
         Value::Array(items) => Ok(Tree::List(list_of(alloc, items)?)),
         Value::Object(members) => Ok(Tree::Members(members_of(alloc, members)?)),
     }
@@ -105,7 +105,7 @@ fn members_of(alloc: Global, members: Map<String, Value>) -> Result<Row<Member>,
 {
     let mut made = Row::with_capacity(alloc, members.len())?;
     for (name, member) in members {
-        let name = Text::from_string(name);
+        let name = Text::from_string(name)?;
         let value = tree_of(alloc, member)?;
         made.push(Member { name, value })?;
     }

@@ -76,6 +76,13 @@ impl<T> Row<T> {
         self.items.as_slice()
     }
 
+    /// Gives back the room behind the items.
+    pub fn shrink_to_fit(&mut self)
+        ensures { self.new ≡ self.old }
+    {
+        self.items.shrink_to_fit();
+    }
+
     pub fn reverse(&mut self)
         ensures { self.new ≡ reverse self.old }
     {

@@ -1,13 +1,14 @@
 ghost use Rattle.std.specs.Prelude.{◌≡◌, IfOk, string_bytes, [], IsTrue, ◌↔◌};
 
+use crate::shared::Shared;
 use crate::try_clone::TryClone;
 use std::alloc::{AllocError, Global};
 use std::marker::Model;
 
-/// A text in UTF-8, which contracts see as the list of its bytes.
+/// A text in UTF-8, which contracts see as the list of its bytes. A copy has the same bytes in common.
 #[derive(Debug, Drop)]
 pub struct Text {
-    inner: String,
+    inner: Shared<String>,
 }
 
 impl Model for Text {
@@ -22,52 +23,46 @@ impl Model for Text {
 }
 
 impl Text {
-    /// The empty text, which takes no memory.
-    pub fn new(alloc: Global) -> Text
-        ensures { result ≡ [] }
-    {
-        Text {
-            inner: String::new(alloc),
-        }
-    }
-
     pub fn of(alloc: Global, text: &str) -> Result<Text, AllocError>
         ensures { IfOk result (λ made. made ≡ text.now) }
     {
-        Ok(Text {
-            inner: String::from_str(alloc, text)?,
-        })
+        Text::from_string(String::from_str(alloc, text)?)
     }
 
-    pub fn from_string(inner: String) -> Text
-        ensures { result ≡ string_bytes inner }
+    /// The text of these bytes, which are moved. Room behind them is given back.
+    pub fn from_string(mut inner: String) -> Result<Text, AllocError>
+        ensures { IfOk result (λ made. made ≡ string_bytes inner) }
     {
-        Text { inner }
+        inner.shrink_to_fit();
+        let alloc = *inner.allocator();
+        Ok(Text {
+            inner: Shared::new(alloc, inner)?,
+        })
     }
 
     /// The allocator with which the text was made. Contracts don't see it.
     pub fn allocator(&self) -> Global {
-        *self.inner.allocator()
+        *self.inner.get().allocator()
     }
 
     pub fn as_str(&self) -> &str
         ensures { result.now ≡ self.now }
     {
-        self.inner.as_str()
+        self.inner.get().as_str()
     }
 
     pub fn is_empty(&self) -> bool
         ensures { IsTrue result ↔ (self.now ≡ []) }
     {
-        self.inner.is_empty()
+        self.inner.get().is_empty()
     }
 
-    /// An equal text, from the allocator of this one.
+    /// An equal text. The bytes aren't copied.
     pub fn copy(&self) -> Result<Text, AllocError>
         ensures { IfOk result (λ made. made ≡ self.now) }
     {
         Ok(Text {
-            inner: self.inner.clone()?,
+            inner: self.inner.share()?,
         })
     }
 }

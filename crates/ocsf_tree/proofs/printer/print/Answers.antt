@@ -14,7 +14,7 @@ returns c =
     let d = data_of c.args.tree.now in
     let tokens : c.write.new.out.tokens ≡ json_tokens (outline d) = c.in_ok-write.ensures.ok ∙ ap (λ ts. ts ++ json_tokens (outline d)) c.new-out.ensures.tokens in
     let before : c.write.new.out.before ≡ [] = c.in_ok-write.ensures.before ∙ c.new-out.ensures.before ∙ c.new.ensures.items in
-    let same : c.from_vec.result ≡ text c.args.tree.now = c.from_vec.ensures ∙ c.into_inner.ensures.items ∙ rw (before, tokens) (print-outline d) in
+    let same : c.shrink_to_fit.new.self ≡ text c.args.tree.now = c.shrink_to_fit.ensures ∙ (c.from_vec-bytes.ensures ∙ c.into_inner.ensures.items ∙ rw (before, tokens) (print-outline d)) in
     let utf8 : IsUtf8 (text c.args.tree.now) = subst IsUtf8 (ap print tokens ∙ print-outline d) c.into_inner.ensures.utf8 in
     record {
       text = same;
