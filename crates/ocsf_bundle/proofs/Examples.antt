@@ -1,12 +1,9 @@
 -- Small bundles, looked at by the definitions alone.
 use Rattle.std.proofs.Common.{◌≡◌, ℕ, List, [], ◌∷◌, ◌++◌, map, Option, Some, None, codes, refl}
-use Rattle.ocsf_tree.specs.declared.tree.Tree.TheVariants.{Null}
 use Rattle.ocsf_tree.specs.declared.key.Side.{Side}
 use Rattle.ocsf_tree.specs.declared.key.Side.TheVariants.{Class, Object}
 use Rattle.ocsf_tree.specs.declared.key.Key.{Key}
 use Rattle.ocsf_tree.specs.Key.{key_text}
-use Rattle.ocsf_tree.specs.declared.fault.Fault.{Fault}
-use Rattle.ocsf_tree.specs.declared.fault.Code.TheVariants as code
 use Rattle.ocsf_raw.specs.declared.files.RawFile.{RawFile}
 use Rattle.ocsf_raw.specs.declared.files.RawFile.TheVariants as raw
 use Rattle.ocsf_raw.specs.declared.files.ItemFile.{ItemFile}
@@ -14,14 +11,13 @@ use Rattle.ocsf_raw.specs.declared.files.ProfileFile.{ProfileFile}
 use Rattle.ocsf_raw.specs.declared.files.ExtFile.{ExtFile}
 use Rattle.ocsf_raw.specs.declared.files.CategoryEntry.{CategoryEntry}
 use Rattle.ocsf_raw.specs.declared.dictionary.DictEntry.{DictEntry}
-use Rattle.ocsf_bundle.specs.declared.edit.Change.{Change}
 use Rattle.ocsf_bundle.specs.declared.edit.Change.TheVariants.{Remove, Enable, Disable}
 use Rattle.ocsf_bundle.specs.declared.stored.StoredFile.{StoredFile}
 use Rattle.ocsf_bundle.specs.Active.{active_files}
 use Rattle.ocsf_bundle.specs.Keys.{active_keys}
-use Rattle.ocsf_bundle.specs.Looks.{Looks, PatchOf, AsProfile, AsInclude, DictOf, BuiltIn, Listed}
+use Rattle.ocsf_bundle.specs.Looks.{PatchOf, AsProfile, BuiltIn, Listed}
 use Rattle.ocsf_bundle.specs.FilesLook.{looks}
-use Rattle.ocsf_bundle.specs.After.{file_after, files_after, enabled_after}
+use Rattle.ocsf_bundle.specs.After.{files_after, enabled_after}
 
 -- ---- files
 

@@ -1,6 +1,6 @@
 -- What a bundle keeps to holds of what it finds.
-use Rattle.std.proofs.Common.{◌≡◌, ◌≤◌, ◌+◌, ℕ, List, [], ◌∷◌, ◌++◌, map, take, length, Bool, true, false, cond, Option, Some, None, refl, sym, ◌∙◌, ap, subst, arith}
-use Rattle.std.specs.Prelude.{All, nat_le, if◌then◌else◌, codes}
+use Rattle.std.proofs.Common.{◌≡◌, ◌≤◌, ◌+◌, ℕ, List, [], ◌∷◌, ◌++◌, map, length, Bool, true, false, cond, Option, Some, None, refl, sym, ◌∙◌, ap, subst, arith}
+use Rattle.std.specs.Prelude.{nat_le, if◌then◌else◌, codes}
 use Rattle.std.specs.Option.{IfSome, option_map, option_and_then}
 use Rattle.std.specs.List.{filter, filter_map, cons_option}
 use Rattle.std.specs.Str.{bytes_eq}
@@ -16,7 +16,7 @@ use Rattle.ocsf_bundle.specs.declared.stored.StoredFile.{StoredFile}
 use Rattle.ocsf_bundle.specs.declared.stored.ActiveFile.{ActiveFile}
 use Rattle.ocsf_bundle.specs.declared.keys.GroupBy.TheVariants as by
 use Rattle.ocsf_bundle.specs.Stored.{stored_path, IsStoredSound, IsActiveSound, AreFilesSound}
-use Rattle.ocsf_bundle.specs.Active.{active_file, active_files, if_enabled, is_enabled, extension_path, in_layers, into_order, in_order, extension_uid, is_of_extension, extension_in, extension_folder, of_extension, of_core}
+use Rattle.ocsf_bundle.specs.Active.{active_file, active_files, if_enabled, is_enabled, extension_path, in_layers, into_order, extension_uid, is_of_extension, extension_in, extension_folder, of_extension, of_core}
 use Rattle.ocsf_bundle.specs.Keys.{gives, giving, key_given, patch_given, profile_given, include_given, extension_given, side_keys, active_keys, keys_given}
 use Rattle.ocsf_bundle.specs.Groups.{given_by, group, group_at, groups_of}
 use Rattle.ocsf_bundle.specs.Index.{index_of, side_groups, groups_by_side, is_dictionary, is_categories, group_key, group_keys}

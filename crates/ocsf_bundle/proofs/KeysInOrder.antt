@@ -16,10 +16,9 @@ use Rattle.ocsf_tree.proofs.FirstOfEach.{at_name-append, IsByName-first_of_each,
 use Rattle.ocsf_raw.specs.declared.files.RawFile.{RawFile}
 use Rattle.ocsf_raw.specs.declared.files.RawFile.TheVariants as raw
 use Rattle.ocsf_bundle.specs.declared.stored.ActiveFile.{ActiveFile}
-use Rattle.ocsf_bundle.specs.Active.{in_layers}
 use Rattle.ocsf_bundle.specs.Keys.{giving, gives, item_key_in, key_given, keys_given, side_keys, active_keys}
 use Rattle.ocsf_bundle.specs.Looks.{is_there}
-use Rattle.ocsf_bundle.specs.FilesLook.{item_said, item_of, looks_of}
+use Rattle.ocsf_bundle.specs.FilesLook.{item_said, item_of}
 use Rattle.ocsf_bundle.proofs.Grouped.{unless_empty, key_found}
 use Rattle.ocsf_bundle.specs.Laws.{AreKeysOfItems}
 

@@ -11,7 +11,7 @@ use Rattle.std.specs.BTreeSet.{insert_key}
 use Rattle.std.proofs.lemmas.List.{map_more, take_more}
 use Rattle.std.proofs.lemmas.List.Concat.{flat_map-append}
 use Rattle.ocsf_tree.specs.ByName.{text_cmp, at_name, put_by_name}
-use Rattle.ocsf_tree.proofs.NameLists.{same_text, IsByName-put}
+use Rattle.ocsf_tree.proofs.NameLists.{same_text}
 use Rattle.ocsf_tree.proofs.FirstOfEach.{same_lists, name-at_name, at_name-append, IsByName-first_of_each, at_name-first_of_each}
 use Rattle.ocsf_raw.specs.declared.dictionary.DictEntry.{DictEntry}
 use Rattle.ocsf_raw.specs.declared.dictionary.TypeEntry.{TypeEntry}
@@ -19,7 +19,7 @@ use Rattle.ocsf_raw.specs.declared.files.CategoryEntry.{CategoryEntry}
 use Rattle.ocsf_bundle.specs.declared.stored.ActiveFile.{ActiveFile}
 use Rattle.ocsf_bundle.specs.Active.{in_layers, into_order, extension_uid}
 use Rattle.ocsf_bundle.specs.Keys.{key_of, profile_given, keys_given}
-use Rattle.ocsf_bundle.specs.Groups.{group, group_name, groups_of}
+use Rattle.ocsf_bundle.specs.Groups.{group, group_name}
 use Rattle.ocsf_bundle.specs.Index.{is_dictionary, is_categories, index_of}
 use Rattle.ocsf_bundle.specs.Listing.{attribute_names, type_names, category_keys, in_byte_order}
 use Rattle.ocsf_bundle.proofs.Looked.{no_attributes, no_types, no_categories}

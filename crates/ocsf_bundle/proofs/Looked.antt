@@ -15,12 +15,12 @@ use Rattle.ocsf_bundle.specs.declared.stored.ActiveFile.{ActiveFile}
 use Rattle.ocsf_bundle.specs.declared.keys.GroupBy.TheVariants as by
 use Rattle.ocsf_bundle.specs.Active.{in_layers, extension_uid}
 use Rattle.ocsf_bundle.specs.Keys.{giving, key_given, patch_given, profile_given, include_given, extension_given}
-use Rattle.ocsf_bundle.specs.Shown.{Shown, There, Item, Profile, Kind, Other, Ext}
+use Rattle.ocsf_bundle.specs.Shown.{There, Item, Profile, Kind, Other, Ext}
 use Rattle.ocsf_bundle.specs.Looks.{CategoryOf, BuiltIn, Listed, is_there, look, show_patch, show_included, show_entry, show_category}
 use Rattle.ocsf_bundle.specs.FilesLook.{item_of, patch_of, profile_of, include_of, dict_by, dict_of, kind_of, category_of, category_named, local_name, extension_file_of, attributes_said, types_said, categories_said, or_built_in, looks_of}
-use Rattle.ocsf_bundle.specs.Groups.{given_by, group_at, groups_of}
+use Rattle.ocsf_bundle.specs.Groups.{given_by, group_at}
 use Rattle.ocsf_bundle.specs.Index.{index_of, side_groups, groups_by_side, says_dictionary, says_categories, is_dictionary, is_categories}
-use Rattle.ocsf_bundle.specs.Parts.{part_in, parts_in, or_other, found}
+use Rattle.ocsf_bundle.specs.Parts.{part_in, or_other, found}
 use Rattle.ocsf_bundle.proofs.Grouped.{group_at-groups_of}
 
 shown_each : {A B C : Type 0} (f : B → C) (g : A → Option B) (xs : List A) → filter_map (λ x. option_map f (g x)) xs ≡ map f (filter_map g xs)

@@ -1,8 +1,8 @@
 -- What the files say stays in order wherever they are put.
-use Rattle.std.proofs.Common.{◌≡◌, ℕ, List, [], ◌∷◌, Bool, true, false, cond, Option, Some, None, refl, sym, ◌∙◌, ap, subst, arith}
-use Rattle.std.specs.Prelude.{All, ⊤, nat_le}
-use Rattle.std.specs.Option.{IfSome, option_map, option_copied}
-use Rattle.std.specs.List.{filter, filter_map, cons_option}
+use Rattle.std.proofs.Common.{◌≡◌, ℕ, List, [], ◌∷◌, true, false, cond, Option, Some, None, sym, subst, arith}
+use Rattle.std.specs.Prelude.{All, nat_le}
+use Rattle.std.specs.Option.{IfSome, option_copied}
+use Rattle.std.specs.List.{filter_map, cons_option}
 use Rattle.std.specs.Borrow.{Bor}
 use Rattle.std.specs.Ordering.{is_eq}
 use Rattle.std.proofs.lemmas.List.Elements.{All-cons, All-head, All-tail}

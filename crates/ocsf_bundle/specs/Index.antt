@@ -1,5 +1,5 @@
 -- What a bundle keeps of the files that count, and the files that a cell is asked of.
-use Rattle.std.specs.Prelude.{ℕ, List, [], ◌++◌, map, filter, Bool, true, false, Option}
+use Rattle.std.specs.Prelude.{ℕ, List, ◌++◌, map, filter, Bool, true, false, Option}
 use Rattle.ocsf_tree.specs.declared.key.Side.{Side}
 use Rattle.ocsf_tree.specs.declared.key.Side.TheVariants as side
 use Rattle.ocsf_tree.specs.declared.key.Key.{Key}

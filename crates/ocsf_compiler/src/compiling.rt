@@ -1,7 +1,8 @@
 // A bundle compiled from scratch.
-ghost use Rattle.std.specs.Prelude.{◌≡◌, None, IfOk, IfErr, OnOk, All};
+ghost use Rattle.std.specs.Prelude.{◌≡◌, ◌+◌, None, IfOk, IfErr, OnOk, All, length};
 ghost use Rattle.ocsf_tree.specs.ByName.{IsByName};
 ghost use Rattle.ocsf_raw.specs.Ordered.{IsTypeValid};
+ghost use Rattle.ocsf_bundle.specs.Listing.{listing};
 ghost use Rattle.ocsf_item.specs.Compilation.{IsCompilation};
 ghost use Rattle.ocsf_item.specs.Verdict.{types_of, bundle_fault, IsFaultless, IsVerdict};
 ghost use Rattle.ocsf_compiler.specs.Building.{IsLeast};
@@ -32,6 +33,7 @@ fn schema_of<L: Ledger>(
     ensures schema { IfOk result (IsCompilation bundle.now) }
     ensures faultless { OnOk result (IsFaultless bundle.now) }
     ensures fault { IfErr result (IsLeast (bundle_fault bundle.now)) }
+    ensures steps { OnOk result (steps.new ≡ steps.old + length (listing bundle.now).items) }
 {
     if let Some(fault) = bundle.own_fault()? {
         return Err(CompileError::Fault(fault));
@@ -48,7 +50,7 @@ fn schema_of<L: Ledger>(
 
 /// The schema that the bundle is compiled to, from its files alone. It is refused by its least fault,
 /// and where it has none by the first type whose pattern `regex` doesn't take. A step is counted for each
-/// item that is looked at.
+/// item that is compiled.
 pub fn compile<L: Ledger>(
     alloc: Global,
     bundle: &Bundle,
@@ -57,6 +59,7 @@ pub fn compile<L: Ledger>(
     ensures schema { IfOk result (IsCompilation bundle.now) }
     ensures clean { OnOk result (IsVerdict bundle.now None) }
     ensures refused { IfErr result (IsRefusedFor bundle.now) }
+    ensures steps { OnOk result (steps.new ≡ steps.old + length (listing bundle.now).items) }
 {
     let types = types_of(alloc, bundle)?;
     let schema = schema_of(alloc, bundle, types.as_slice(), steps)?;

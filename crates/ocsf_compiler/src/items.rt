@@ -1,5 +1,5 @@
 // The items of a bundle, and the least of their faults.
-ghost use Rattle.std.specs.Prelude.{◌≡◌, None, IfOk, IfErr, OnOk, filter_map};
+ghost use Rattle.std.specs.Prelude.{◌≡◌, ◌+◌, None, IfOk, IfErr, OnOk, filter_map, length};
 ghost use Rattle.std.specs.Result.{result_ok, result_err};
 ghost use Rattle.ocsf_tree.specs.LeastFault.{least_fault};
 ghost use Rattle.ocsf_bundle.specs.FilesLook.{looks};
@@ -25,6 +25,7 @@ fn item_or_fault<L: Ledger>(
 ) -> Result<Result<Shared<Piece>, Fault>, AllocError>
     ensures item { IfOk result (λ made. result_ok made ≡ sound_item (looks bundle.now.files bundle.now.enabled) key.now) }
     ensures fault { IfOk result (λ made. result_err made ≡ item_fault (looks bundle.now.files bundle.now.enabled) key.now) }
+    ensures step { steps.new ≡ steps.old + 1 }
 {
     match build_item(alloc, bundle, key, steps) {
         Ok(built) => {
@@ -52,6 +53,7 @@ fn found_items<L: Ledger>(
         ≡ filter_map (sound_item (looks bundle.now.files bundle.now.enabled)) (listing bundle.now).items) }
     ensures least { IfOk result (λ found. found.least
         ≡ least_fault (filter_map (item_fault (looks bundle.now.files bundle.now.enabled)) (listing bundle.now).items)) }
+    ensures steps { OnOk result (steps.new ≡ steps.old + length (listing bundle.now).items) }
 {
     let keys = bundle.keys();
     let mut pieces = Row::with_capacity(alloc, keys.len())?;
@@ -76,6 +78,7 @@ pub fn items_of<L: Ledger>(
         (least_fault (filter_map (item_fault (looks bundle.now.files bundle.now.enabled)) (listing bundle.now).items) ≡ None) }
     ensures fault { IfErr result (IsLeast
         (least_fault (filter_map (item_fault (looks bundle.now.files bundle.now.enabled)) (listing bundle.now).items))) }
+    ensures steps { OnOk result (steps.new ≡ steps.old + length (listing bundle.now).items) }
 {
     let Found { pieces, least } = found_items(alloc, bundle, steps)?;
     match least {

@@ -1,4 +1,4 @@
-use Rattle.std.proofs.Common.{◌≡◌, List, [], ◌∷◌, ◌++◌, None, Some, sym, ap, ◌∙◌, rules}
+use Rattle.std.proofs.Common.{◌≡◌, [], ◌∷◌, ◌++◌, None, Some, sym, ap, ◌∙◌, rules}
 use Rattle.ocsf_raw.proofs.FilterMaps.{filter_map-kept, filter_map-passed}
 use Rattle.ocsf_bundle.specs.Active.{active_file}
 use Rattle.ocsf_bundle.proofs.active.active_files.Goals as goal

@@ -1,15 +1,15 @@
-use Rattle.std.proofs.Common.{◌≡◌, ℕ, List, take, length, Option, Some, unwrap_or, refl, sym, ap, subst, ◌∙◌, arith}
+use Rattle.std.proofs.Common.{◌≡◌, ℕ, List, take, length, Option, unwrap_or, sym, ap, subst, ◌∙◌, arith}
 use Rattle.std.specs.Option.{IfSome}
 use Rattle.std.specs.BTreeMap.{get}
 use Rattle.std.proofs.lemmas.List.{take_all}
 use Rattle.ocsf_tree.specs.ByName.{text_cmp, at_name, IsByName}
 use Rattle.ocsf_bundle.specs.declared.stored.StoredFile.{StoredFile}
 use Rattle.ocsf_bundle.specs.Stored.{stored_path, IsStoredSound, AreFilesSound}
-use Rattle.ocsf_bundle.specs.After.{said_of, file_said, file_after, AreFine}
+use Rattle.ocsf_bundle.specs.After.{said_of, file_said, file_after}
 use Rattle.ocsf_bundle.specs.NamedMap.{values_in}
 use Rattle.ocsf_bundle.proofs.Ordered.{at_name-holds}
 use Rattle.ocsf_bundle.proofs.NamedMaps.{HoldsNames, IsByName-values, at_name-values, all-found}
-use Rattle.ocsf_bundle.proofs.Afters.{files_own, stands-more, stands-own, all_after-is, fine-more, first-fault}
+use Rattle.ocsf_bundle.proofs.Afters.{files_own, stands-more, stands-own, all_after-is, fine-more}
 use Rattle.ocsf_bundle.proofs.draft.files_after.Goals as goal
 use Rattle.ocsf_bundle.proofs.draft.files_after.Goals.{In_ok-files-2}
 

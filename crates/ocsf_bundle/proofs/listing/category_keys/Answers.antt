@@ -1,4 +1,4 @@
-use Rattle.std.proofs.Common.{◌≡◌, ◌∷◌, ◌++◌, codes, take, sym, ap, ◌∙◌, rules}
+use Rattle.std.proofs.Common.{◌∷◌, codes, take, sym, ap, ◌∙◌}
 use Rattle.std.specs.Prelude.{flat_map}
 use Rattle.ocsf_bundle.specs.Listing.{category_keys, in_byte_order}
 use Rattle.ocsf_bundle.proofs.Listed.{flat_map-more}

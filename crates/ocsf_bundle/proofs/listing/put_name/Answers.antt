@@ -1,4 +1,4 @@
-use Rattle.std.proofs.Common.{◌≡◌, ◌∙◌, rules}
+use Rattle.std.proofs.Common.{◌∙◌}
 use Rattle.ocsf_bundle.proofs.Listed.{insert_key-put}
 use Rattle.ocsf_bundle.proofs.listing.put_name.Goals as goal
 

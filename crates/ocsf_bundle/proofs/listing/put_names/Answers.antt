@@ -1,4 +1,4 @@
-use Rattle.std.proofs.Common.{◌≡◌, rules, ◌∙◌, ap}
+use Rattle.std.proofs.Common.{◌≡◌, rules, ◌∙◌}
 use Rattle.ocsf_bundle.proofs.Listed.{in_byte_order-more}
 use Rattle.ocsf_bundle.proofs.listing.put_names.Goals as goal
 

@@ -1,4 +1,4 @@
-use Rattle.std.proofs.Common.{◌≡◌, [], ◌∷◌, ◌++◌, Some, None, sym, ap, ◌∙◌, rules}
+use Rattle.std.proofs.Common.{◌≡◌, [], ◌∷◌, ◌++◌, Some, None, sym, ap, ◌∙◌, rules, arith}
 use Rattle.std.specs.List.{filter_map}
 use Rattle.ocsf_tree.specs.LeastFault.{least_fault}
 use Rattle.ocsf_raw.proofs.FilterMaps.{filter_map-kept, filter_map-passed}
@@ -29,6 +29,7 @@ loop-key-preserved g c =
                 ∙ ap (λ l. l ++ w.in-Ok.piece ∷ []) c.loop-key.invariant.pieces
                 ∙ sym (filter_map-kept (sound_item b) keys i key c.loop-key-test.true c.key-item.is w.in-Ok.piece some);
             least = noted (item_fault b) keys start c.loop-key.least c.match-branch-3.least i key c.loop-key-test.true c.key-item.is same c.loop-key.invariant.least;
+            steps = omega arith;
           }
       | in-Err w ↦
           let none : sound_item b key ≡ None = search rules in
@@ -42,5 +43,6 @@ loop-key-preserved g c =
                 ∙ sym (filter_map-passed (sound_item b) keys i key c.loop-key-test.true c.key-item.is none);
             least = noted (item_fault b) keys start c.loop-key.least c.match-branch-3.least i key c.loop-key-test.true c.key-item.is
                 (lesser ∙ ap (lesser_of c.loop-key.least) (sym some)) c.loop-key.invariant.least;
+            steps = omega arith;
           }
     ]

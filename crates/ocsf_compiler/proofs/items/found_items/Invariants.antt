@@ -1,4 +1,4 @@
-use Rattle.std.proofs.Common.{◌≡◌, take}
+use Rattle.std.proofs.Common.{◌≡◌, ◌+◌, take}
 use Rattle.std.specs.List.{filter_map}
 use Rattle.ocsf_tree.specs.LeastFault.{least_fault}
 use Rattle.ocsf_bundle.specs.FilesLook.{looks}
@@ -12,4 +12,5 @@ invariant-loop-key g l = record {
   pieces : l.pieces ≡ filter_map (sound_item (looks l.bundle.files l.bundle.enabled)) (take l.key-index l.keys);
   least : left_of (item_fault (looks l.bundle.files l.bundle.enabled)) l.keys l.least l.key-index
       ≡ least_fault (filter_map (item_fault (looks l.bundle.files l.bundle.enabled)) l.keys);
+  steps : l.steps ≡ l.fn.steps + l.key-index;
 }

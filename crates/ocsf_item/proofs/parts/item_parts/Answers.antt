@@ -17,7 +17,7 @@ returns-clause-attrs g c none =
     let ext : c.ext_of-ext.result.now ≡ ext_of c.args.key.now.name = c.ext_of-ext.ensures ∙ ap ext_of c.as_str.ensures in
     let numbered = c.in_ok-class.ensures.numbered none in
     c.in_ok-join_all.ensures.attrs
-    ∙ (λ i. c.new.ensures i ++ map (λ s. attr_of b (ext i) (computed (numbered i) s.attr.name) s) (c.requires.rows i))
+    ∙ (λ i. c.in_ok-attrs.ensures i ++ map (λ s. attr_of b (ext i) (computed (numbered i) s.attr.name) s) (c.requires.rows i))
 
 pub returns-clause-least : goal.returns-clause-least
 returns-clause-least g c =

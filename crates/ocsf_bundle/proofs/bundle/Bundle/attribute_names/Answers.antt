@@ -1,10 +1,9 @@
-use Rattle.std.proofs.Common.{◌≡◌, ℕ, List, ◌∷◌, map, codes, IfOk, ap, subst, ◌∙◌, rules}
+use Rattle.std.proofs.Common.{◌≡◌, ℕ, List, IfOk, ap, subst, ◌∙◌, rules}
 use Rattle.std.specs.Prelude.{flat_map}
 use Rattle.ocsf_bundle.specs.declared.stored.StoredFile.{StoredFile}
 use Rattle.ocsf_bundle.specs.Stored.{Stored}
 use Rattle.ocsf_bundle.specs.Active.{active_files}
-use Rattle.ocsf_bundle.specs.Groups.{group_name}
-use Rattle.ocsf_bundle.specs.Listing.{attribute_names, type_names, category_keys, in_byte_order, listing}
+use Rattle.ocsf_bundle.specs.Listing.{attribute_names, in_byte_order, listing}
 use Rattle.ocsf_bundle.proofs.Listed.{attributes_listed}
 use Rattle.ocsf_bundle.proofs.bundle.Bundle.attribute_names.Goals as goal
 

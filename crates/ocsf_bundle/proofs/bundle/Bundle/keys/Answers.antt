@@ -1,6 +1,5 @@
-use Rattle.std.proofs.Common.{◌≡◌, sym, ap, ◌∙◌, rules}
+use Rattle.std.proofs.Common.{◌≡◌, ap, ◌∙◌, rules}
 use Rattle.ocsf_bundle.specs.Active.{active_files}
-use Rattle.ocsf_bundle.specs.Index.{index_of}
 use Rattle.ocsf_bundle.specs.Keys.{active_keys}
 use Rattle.ocsf_bundle.proofs.Kept.{keys-index_of}
 use Rattle.ocsf_bundle.proofs.bundle.Bundle.keys.Goals as goal

@@ -1,7 +1,5 @@
-use Rattle.std.proofs.Common.{◌≡◌, List, ℕ, slice_get, ap, subst, sym, ◌∙◌, rules}
-use Rattle.std.specs.Option.{option_map}
-use Rattle.ocsf_bundle.specs.Active.{active_files, in_layers}
-use Rattle.ocsf_bundle.specs.Index.{index_of}
+use Rattle.std.proofs.Common.{◌≡◌, slice_get, ap, subst, sym, ◌∙◌, rules}
+use Rattle.ocsf_bundle.specs.Active.{active_files}
 use Rattle.ocsf_bundle.specs.Parts.{asked, AreActiveSound, AreGroupsByName}
 use Rattle.ocsf_bundle.specs.Looks.{look}
 use Rattle.ocsf_bundle.specs.FilesLook.{looks}
