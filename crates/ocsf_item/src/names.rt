@@ -86,21 +86,26 @@ pub(crate) fn category_cells(alloc: Global, ext: &str, name: &str) -> Result<Row
     Ok(cells)
 }
 
+fn include_cell(alloc: Global, from: &str, path: &str) -> Result<Cell, AllocError>
+    ensures { IfOk result (λ made. made ≡ Cell.Include from.now path.now) }
+{
+    Ok(Cell::Include {
+        from: Text::of(alloc, from)?,
+        path: Text::of(alloc, path)?,
+    })
+}
+
 /// The files that the path may mean in a file of that extension.
 pub(crate) fn include_cells(alloc: Global, ext: &str, path: &str) -> Result<Row<Cell>, AllocError>
     ensures { IfOk result (λ made. made ≡ include_cells ext.now path.now) }
 {
     let mut cells = Row::new(alloc);
-    if !ext.is_empty() {
-        cells.push(Cell::Include {
-            from: Text::of(alloc, ext)?,
-            path: Text::of(alloc, path)?,
-        })?;
+    if ext.is_empty() {
+        cells.push(include_cell(alloc, "", path)?)?;
+        return Ok(cells);
     }
-    cells.push(Cell::Include {
-        from: Text::of(alloc, "")?,
-        path: Text::of(alloc, path)?,
-    })?;
+    cells.push(include_cell(alloc, ext, path)?)?;
+    cells.push(include_cell(alloc, "", path)?)?;
     Ok(cells)
 }
 

@@ -213,3 +213,28 @@ fn counts_files_and_extensions(rt: HostRuntime) -> Result<(), Fail> {
     check_many(&rt, alloc, OBJECTS, 4106, OF_OBJECTS)?;
     check_many(&rt, alloc, ENABLED, 74, OF_EXTENSIONS)
 }
+
+// On 64 files of 2^18 bytes each.
+const OF_BYTES: &str = r#"[] => none
+[{"put":"version.json","body":{"version":""}}] => too_many;bundle;bytes
+[{"put":"version.json","body":{"version":""}},{"put":"objects/o10.json","body":{"name":"o10"}}] => none"#;
+
+// The edit's parts: a file has the text `{"name":"o10","x":".."}`.
+fn padded(alloc: Global) -> Result<String, AllocError> {
+    let mut parts = String::from_str(
+        alloc,
+        "[\n{\"put\":\"objects/o#.json\",\"body\":{\"name\":\"o#\",\"x\":\"",
+    )?;
+    for _ in 21..262_144u32 {
+        parts.push('x')?;
+    }
+    parts.push_str("\"}},\n{\"disable\":\"none\"}]")?;
+    Ok(parts)
+}
+
+#[test]
+fn counts_bytes(rt: HostRuntime) -> Result<(), Fail> {
+    let alloc = rt.alloc();
+    let parts = padded(alloc)?;
+    check_many(&rt, alloc, parts.as_str(), 74, OF_BYTES)
+}

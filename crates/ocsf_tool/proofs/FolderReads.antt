@@ -4,7 +4,7 @@ use Rattle.std.specs.Prelude.{All, IfSome, IsErrAnd, filter, is_err, if◌then�
 use Rattle.std.specs.List.{filter_map, cons_option}
 use Rattle.std.specs.Ordering.{is_lt}
 use Rattle.std.specs.FinMap.Entries.{below_all}
-use Rattle.std.proofs.lemmas.List.{map-append, take_more, take_all, take-append-drop, length-take-le}
+use Rattle.std.proofs.lemmas.List.{map-append, take_more, take-append-drop}
 use Rattle.ocsf_edge.specs.declared.records.KeptFile.{KeptFile}
 use Rattle.ocsf_edge.specs.Folder.{body_at}
 use Rattle.ocsf_edge.specs.Sink.{AppendsPrefix}
@@ -24,6 +24,7 @@ use Rattle.ocsf_item.specs.Compilation.{compilation, IsCompilation}
 use Rattle.ocsf_item.specs.Verdict.{IsVerdict}
 use Rattle.ocsf_tool.specs.declared.folder_error.FolderError.{FolderError}
 use Rattle.ocsf_tool.specs.declared.folder_error.FolderError.TheVariants.{Fault as Faulty, FolderFault, Memory}
+use Rattle.ocsf_tool.specs.Fronts.{front_long, front_whole}
 use Rattle.ocsf_tool.specs.Folders.{IsFile, IsFileOf, IsFirstFileFault, IsCompiled, CompileFront, Written, compile_text, max_file}
 use Rattle.ocsf_tool.specs.FolderParts.{of_raw, if_formed, IsMade, IsGot, AreFilesOrFault, IsBundleOf}
 
@@ -96,22 +97,11 @@ pub told_by : {X : Type 0} (P R : X → Type 0) → ((x : X) → P x → R x) �
 told_by P R by None p = p
 told_by P R by (Some x) p = by x p
 
-past : (m n : ℕ) → m < n → n ≤ m → ⊥
-past m n h k = omega (arith, h, k)
-
-front_long : (bytes : List ℕ) → max_file < length bytes → max_file < length (take (max_file + 1) bytes)
-front_long bytes h =
-    let all : max_file + 1 ≤ length bytes = omega (arith, h) in
-    subst (λ n. max_file < n) (sym (length-take-le (max_file + 1) bytes all)) (omega arith)
-
-front_whole : (bytes : List ℕ) → length bytes ≤ max_file → take (max_file + 1) bytes ≡ bytes
-front_whole bytes h = take_all (max_file + 1) bytes (omega (arith, h))
-
 -- a file is judged by its front
 front_judged : (path body : List ℕ) (made : Result StoredFile Fault) → IsFile path (take (max_file + 1) body) made → IsFile path body made
 front_judged path body made judged = record {
-  long = λ h. judged.long (front_long body h);
-  short = λ h. (subst (λ b. IsFile path b made) (front_whole body h) judged).short h;
+  long = λ h. judged.long (front_long max_file body h);
+  short = λ h. (subst (λ b. IsFile path b made) (front_whole max_file body h) judged).short h;
 }
 
 pub front_got : (path body bytes : List ℕ) (r : Result StoredFile FolderError) → bytes ≡ take (max_file + 1) body → IsGot (IsFile path bytes) r → IsGot (IsFile path body) r

@@ -2,7 +2,6 @@
 use Rattle.std.proofs.Common.{◌≡◌, ◌≢◌, ℕ, ◌+◌, ◌<◌, ◌≤◌, List, [], ◌∷◌, ◌++◌, length, take, Bool, is_err, Option, Some, None, Result, Ok, Err, inl, inr, refl, sym, subst, arith}
 use Rattle.std.specs.Prelude.{All, IfOk}
 use Rattle.std.proofs.lemmas.Bool.{cases_lt}
-use Rattle.std.proofs.lemmas.List.{take_all, length-take-le}
 use Rattle.ocsf_tree.specs.declared.tree.Tree.{Tree}
 use Rattle.ocsf_tree.specs.declared.fault.Fault.{Fault}
 use Rattle.ocsf_tree.specs.declared.fault.Code.TheVariants as code
@@ -25,6 +24,7 @@ use Rattle.ocsf_item.specs.Verdict.{IsVerdict}
 use Rattle.ocsf_compiler.proofs.SomeEdit.{some_edit}
 use Rattle.ocsf_compiler.proofs.SomeAfter.{some_after}
 use Rattle.ocsf_compiler.proofs.SomeVerdict.{some_verdict}
+use Rattle.ocsf_tool.specs.Fronts.{past, front_long, front_whole}
 use Rattle.ocsf_tool.specs.Edits.{Edited, EditStep, IsChangesOutcome, IsSaidOutcome, IsReadOutcome, IsLineOutcome, IsJudgement, max_edit, too_long, line_fault, reply_tree, after_line}
 
 -- ---- changes
@@ -73,9 +73,6 @@ of_text old line =
 
 -- ---- lines
 
-past : (m n : ℕ) → m < n → n ≤ m → ⊥
-past m n h k = omega (arith, h, k)
-
 some_judgement : (old : Edited) (line : List ℕ) → (outcome : Result Stored Fault) × IsJudgement old line outcome
 some_judgement old line =
     elim (cases_lt max_edit (length line)) [
@@ -99,18 +96,10 @@ some_step old line = let j = some_judgement old line in answer_of old line j.0 j
 
 -- ---- the front of a long line
 
-front_long : (line : List ℕ) → max_edit < length line → max_edit < length (take (max_edit + 1) line)
-front_long line h =
-    let all : max_edit + 1 ≤ length line = omega (arith, h) in
-    subst (λ n. max_edit < n) (sym (length-take-le (max_edit + 1) line all)) (omega arith)
-
-front_whole : (line : List ℕ) → length line ≤ max_edit → take (max_edit + 1) line ≡ line
-front_whole line h = take_all (max_edit + 1) line (omega (arith, h))
-
 front_judged : (old : Edited) (line : List ℕ) (outcome : Result Stored Fault) → IsJudgement old (take (max_edit + 1) line) outcome → IsJudgement old line outcome
 front_judged old line outcome judged = record {
-  long = λ h. judged.long (front_long line h);
-  short = λ h. (subst (λ l. IsJudgement old l outcome) (front_whole line h) judged).short h;
+  long = λ h. judged.long (front_long max_edit line h);
+  short = λ h. (subst (λ l. IsJudgement old l outcome) (front_whole max_edit line h) judged).short h;
 }
 
 pub step_by_front : (old : Edited) (line reply : List ℕ) (is_refused : Bool) (new : Edited) → EditStep old (take (max_edit + 1) line) reply is_refused new → EditStep old line reply is_refused new

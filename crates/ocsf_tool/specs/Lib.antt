@@ -1,8 +1,9 @@
+pub mod Answered
+pub mod Commands
 pub mod Edits
+pub mod ExitCodes
+pub mod FolderParts
+pub mod Folders
+pub mod Fronts
 pub mod Judging
 pub mod Outcomes
-pub mod ExitCodes
-pub mod Commands
-pub mod Answered
-pub mod Folders
-pub mod FolderParts
