@@ -1,6 +1,6 @@
 -- The least fault of a bundle, group by group.
-use Rattle.std.proofs.Common.{◌≡◌, List, length, Option, Some, None, Result, Ok, Err, ◌∙◌, ap}
-use Rattle.std.specs.Prelude.{IfErr}
+use Rattle.std.proofs.Common.{◌≡◌, List, length, Option, Some, None, Result, Ok, Err, sym, ◌∙◌, ap, subst}
+use Rattle.std.specs.Prelude.{IfErr, IsErrAnd}
 use Rattle.std.specs.Option.{option_or}
 use Rattle.std.specs.List.{filter_map}
 use Rattle.ocsf_tree.specs.declared.fault.Fault.{Fault}
@@ -78,3 +78,8 @@ module _ (bundle : Stored) where
 pub carried : {A E : Type 0} (P Q : E → Type 0) → ((e : E) → P e → Q e) → (r : Result A E) → IfErr r P → IfErr r Q
 carried P Q f (Ok x) h = tt
 carried P Q f (Err e) h = f e h
+
+-- want of memory says nothing of the least
+pub wanting : {A : Type 0} (least : Option Fault) (r : Result A CompileError) → IsErrAnd r (λ made. made ≡ error.Memory) → IfErr r (IsLeast least)
+wanting least (Ok x) h = absurd h
+wanting least (Err e) h = subst (IsLeast least) (sym h) tt

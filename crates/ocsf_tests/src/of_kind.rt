@@ -138,7 +138,7 @@ fn keeps_what_each_type_asks(rt: HostRuntime) -> Result<(), Fail> {
     let members =
         r#""a_t":{"range":[-1,2],"type":"datetime_t","values":[1]},"datetime_t":{"max_len":9,"regex":"r","type":"string_t"}"#;
     let wanted =
-        r#"Ok(Kind { name: Text { inner: "a_t" }, base: Words, limits: Row { items: [Limit { type_name: Text { inner: "a_t" }, max_len: None, range: Some(Span { low: -1, high: 2 }), pattern: None, instant: false, values: Some(Row { items: [Whole(1)] }) }, Limit { type_name: Text { inner: "datetime_t" }, max_len: Some(9), range: None, pattern: Some(Text { inner: "r" }), instant: true, values: None }] } })"#;
+        r#"Ok(Kind { name: "a_t", base: Words, limits: Row { items: [Limit { type_name: "a_t", max_len: None, range: Some(Span { low: -1, high: 2 }), pattern: None, instant: false, values: Some(Row { items: [Whole(1)] }) }, Limit { type_name: "datetime_t", max_len: Some(9), range: None, pattern: Some("r"), instant: true, values: None }] } })"#;
     assert!(rt; keeps(rt.alloc(), members, "a_t", wanted)?);
     Ok(())
 }

@@ -3,10 +3,11 @@ ghost use Rattle.std.specs.Prelude.{◌≡◌, IfOk, string_bytes, [], IsTrue, �
 use crate::shared::Shared;
 use crate::try_clone::TryClone;
 use std::alloc::{AllocError, Global};
+use std::fmt::{self, Debug, Formatter, Write};
 use std::marker::Model;
 
 /// A text in UTF-8, which contracts see as the list of its bytes. A copy has the same bytes in common.
-#[derive(Debug, Drop)]
+#[derive(Drop)]
 pub struct Text {
     inner: Shared<String>,
 }
@@ -70,5 +71,12 @@ impl Text {
 impl TryClone for Text {
     fn try_clone(&self) -> Result<Text, AllocError> {
         self.copy()
+    }
+}
+
+impl Debug for Text {
+    fn fmt<W: Write>(&self, f: &mut Formatter<W>) -> fmt::Result {
+        let text = self.as_str();
+        Debug::fmt(&text, f)
     }
 }

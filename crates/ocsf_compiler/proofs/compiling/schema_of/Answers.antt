@@ -7,11 +7,15 @@ use Rattle.ocsf_item.specs.Compilation.{compilation}
 use Rattle.ocsf_item.specs.PrintedSchema.{items}
 use Rattle.ocsf_item.specs.Verdict.{bundle_fault}
 use Rattle.ocsf_compiler.specs.Building.{IsLeast}
-use Rattle.ocsf_compiler.proofs.BundleFaults.{of_files, of_schema, items_least, least_of_items, by_key, whole, of_compilation, carried}
+use Rattle.ocsf_compiler.proofs.BundleFaults.{of_files, of_schema, items_least, least_of_items, by_key, whole, of_compilation, carried, wanting}
 use Rattle.ocsf_compiler.proofs.compiling.schema_of.Goals as goal
 
 pub returns-in-Some-clause-fault : goal.returns-in-Some-clause-fault
 returns-in-Some-clause-fault g c = of_files c.args.bundle.now c.in-Some.fault (sym c.in_ok-fault.ensures ∙ c.in-Some.is)
+
+pub returns-in_err-fault-2-clause-fault : goal.returns-in_err-fault-2-clause-fault
+returns-in_err-fault-2-clause-fault g c =
+    wanting (bundle_fault c.args.bundle.now) c.from_residual-in_err-fault-2.result c.from_residual-in_err-fault-2.ensures.1
 
 pub returns-in_err-pieces-clause-fault : goal.returns-in_err-pieces-clause-fault
 returns-in_err-pieces-clause-fault g c =
