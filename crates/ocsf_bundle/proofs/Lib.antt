@@ -17,3 +17,4 @@ pub mod Ordered
 pub mod Orders
 pub mod OwnFound
 pub mod TypeWays
+pub mod OneAfter

@@ -17,3 +17,4 @@ pub mod Stored
 pub mod EditContent
 pub mod Edits
 pub mod CellOrder
+pub mod AfterLaws

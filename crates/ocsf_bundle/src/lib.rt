@@ -27,7 +27,10 @@ mod type_fault;
 pub use bundle::Bundle;
 pub use cells::{Cell, Part};
 pub use edit::{Change, Edit, edit_of};
-pub use edit_laws::edits_read_one_way;
+pub use edit_laws::{
+    a_tree_says_one_edit_or_has_one_fault, an_edit_leads_to_one_bundle_or_has_one_fault,
+    edits_read_one_way,
+};
 pub use faults::lesser_of;
 pub use laws::{cells_are_ordered, keys_are_those_of_items};
 pub use shows::Shows;

@@ -16,3 +16,4 @@ pub mod SaysFiles
 pub mod SaysLayers
 pub mod ValidTypes
 pub mod Sorts
+pub mod OneShape

@@ -11,3 +11,4 @@ pub mod EditShape
 pub mod Ordered
 pub mod Says
 pub mod RecordLaw
+pub mod ShapeLaw

@@ -6,4 +6,5 @@ pub mod FolderParts
 pub mod Folders
 pub mod Fronts
 pub mod Judging
+pub mod Laws
 pub mod Outcomes

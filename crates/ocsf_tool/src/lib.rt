@@ -9,9 +9,11 @@ mod folder;
 mod folder_error;
 mod folder_run;
 mod judgement;
+mod laws;
 mod outcome;
 mod replies;
 mod status;
 
 pub use command::run;
+pub use laws::{a_folder_comes_to_one_schema_or_one_fault, a_line_has_one_outcome};
 pub use status::Status;
