@@ -1,8 +1,9 @@
 -- The files that count: those of core, and those of the folders whose extension is enabled.
-use Rattle.std.specs.Prelude.{ℕ, nat_le, List, [], ◌∷◌, ◌++◌, Bool, false, if◌then◌else◌, codes, Option, Some, None, is_some}
+use Rattle.std.specs.Prelude.{ℕ, nat_le, List, [], ◌∷◌, ◌++◌, Bool, false, if◌then◌else◌, codes, Option, Some, None}
 use Rattle.std.specs.Option.{option_and_then, option_map, option_map_or}
 use Rattle.std.specs.List.{filter_map}
 use Rattle.std.specs.Str.{bytes_eq}
+use Rattle.ocsf_tree.specs.Among.{is_among}
 use Rattle.ocsf_tree.specs.ByName.{at_name}
 use Rattle.ocsf_raw.specs.Forms.{folder, below}
 use Rattle.ocsf_raw.specs.declared.files.RawFile.{RawFile}
@@ -31,10 +32,6 @@ extension_said _ = None
 -- the path of the file that says what the extension in a folder is
 abbrev pub extension_path : List ℕ → List ℕ
 extension_path name = codes "extensions/" ++ name ++ codes "/extension.json"
-
--- whether the name is one of these
-abbrev pub is_among : List ℕ → List (List ℕ) → Bool
-is_among name names = is_some (at_name (λ n. n) name names)
 
 -- whether the file is that of an extension with an enabled name
 abbrev pub is_enabled : List (List ℕ) → StoredFile → Bool

@@ -16,12 +16,12 @@ use Rattle.ocsf_bundle.specs.FilesLook.{looks}
 use Rattle.ocsf_bundle.specs.Listing.{Listing, listing}
 use Rattle.ocsf_bundle.specs.BundleFaults.{own_fault}
 use Rattle.ocsf_bundle.proofs.KeysInOrder.{ordered}
-use Rattle.ocsf_item.specs.Compilation.{compilation}
-use Rattle.ocsf_item.specs.ItemFaults.{item_fault}
-use Rattle.ocsf_item.specs.PrintedSchema.{schema_parts, items, printed_schema}
-use Rattle.ocsf_item.specs.SchemaFaults.{schema_faults}
-use Rattle.ocsf_item.specs.Verdict.{least_of_groups, fault_groups, bundle_fault}
-use Rattle.ocsf_item.proofs.LeastOfItems.{least_is_of_items}
+use Rattle.ocsf_rules.specs.Compilation.{compilation}
+use Rattle.ocsf_rules.specs.ItemFaults.{item_fault}
+use Rattle.ocsf_rules.specs.PrintedSchema.{schema_parts, items, printed_schema}
+use Rattle.ocsf_rules.specs.SchemaFaults.{schema_faults}
+use Rattle.ocsf_rules.specs.Verdict.{least_of_groups, fault_groups, bundle_fault}
+use Rattle.ocsf_rule_laws.proofs.LeastOfItems.{least_is_of_items}
 use Rattle.ocsf_compiler.specs.declared.compile_error.CompileError.{CompileError}
 use Rattle.ocsf_compiler.specs.declared.compile_error.CompileError.TheVariants as error
 use Rattle.ocsf_compiler.specs.Building.{IsLeast, clash_in, large_fault}

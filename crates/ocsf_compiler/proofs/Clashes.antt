@@ -24,10 +24,10 @@ use Rattle.ocsf_schema.specs.Lookups as lookups
 use Rattle.ocsf_bundle.specs.Looks.{Looks}
 use Rattle.ocsf_bundle.specs.BundleFaults.{fault_if}
 use Rattle.ocsf_kind.specs.Numbers.{class_uid}
-use Rattle.ocsf_item.specs.Names.{ext_of}
-use Rattle.ocsf_item.specs.Compiled.{item, uid, category, ext_uid, class_number}
-use Rattle.ocsf_item.specs.ItemFaults.{fault}
-use Rattle.ocsf_item.specs.SchemaFaults.{has_number, comes_before, is_taken, number_fault, uid_clash, max_print, too_large}
+use Rattle.ocsf_rules.specs.Names.{ext_of}
+use Rattle.ocsf_rules.specs.Compiled.{item, uid, category, ext_uid, class_number}
+use Rattle.ocsf_rules.specs.ItemFaults.{fault}
+use Rattle.ocsf_rules.specs.SchemaFaults.{has_number, comes_before, is_taken, number_fault, uid_clash, max_print, too_large}
 use Rattle.ocsf_compiler.specs.Building.{is_taken_in, clash_of, clash_in, large_fault}
 
 -- ---- the first of them decides

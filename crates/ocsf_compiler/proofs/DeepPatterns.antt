@@ -4,7 +4,7 @@ use Rattle.std.specs.Prelude.{IsSomeAnd, IfSome, chars}
 use Rattle.regex.specs.Patterns.{Re, default_config, Reads}
 use Rattle.regex_syntax.specs.Grammar.{Names, read}
 use Rattle.regex_syntax.specs.Brackets.{Nested}
-use Rattle.ocsf_item.specs.Patterns.{IsGood}
+use Rattle.ocsf_rules.specs.Patterns.{IsGood}
 
 not_both : (o : Option (Nested Re × Names)) (limit : ℕ) (P : Nested Re × Names → Type 0) → ((x : Nested Re × Names) → P x → x.0.depth ≤ limit)
     → IfSome o (λ (re, names). limit < re.depth) → IsSomeAnd o P → ⊥

@@ -13,8 +13,8 @@ use Rattle.ocsf_raw.specs.declared.dictionary.TypeEntry.{TypeEntry}
 use Rattle.ocsf_raw.specs.Ordered.{IsByKey, IsSpanValid, IsTypeValid}
 use Rattle.ocsf_bundle.specs.Shown.{Shown, Kind}
 use Rattle.ocsf_bundle.specs.Looks.{DictOf, show_entry}
-use Rattle.ocsf_item.specs.Attribute.{first_said, type_said_in, dict_said}
-use Rattle.ocsf_item.specs.MergedDictionary.{entry_said, last_giving, merged_layers}
+use Rattle.ocsf_rules.specs.Attribute.{first_said, type_said_in, dict_said}
+use Rattle.ocsf_rules.specs.MergedDictionary.{entry_said, last_giving, merged_layers}
 use Rattle.ocsf_compiler.specs.Layers.{as_entry, as_type, entry_over, type_over}
 
 module _ {X Y : Type 0} (show : X → Shown) (back : Shown → Option Y) (value : X → Y) (is : (x : X) → back (show x) ≡ Some (value x)) where

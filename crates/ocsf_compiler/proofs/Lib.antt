@@ -6,7 +6,3 @@ pub mod Printed
 pub mod Clashes
 pub mod SoundItems
 pub mod DeepPatterns
-pub mod SomeAfter
-pub mod SomeEdit
-pub mod SomeLeast
-pub mod SomeVerdict

@@ -19,7 +19,7 @@ use Rattle.ocsf_bundle.specs.Active.{active_files}
 use Rattle.ocsf_bundle.specs.Keys.{profile_given}
 use Rattle.ocsf_bundle.specs.Looks.{Looks}
 use Rattle.ocsf_bundle.specs.Listing.{attribute_names, type_names, category_keys, in_byte_order, listing}
-use Rattle.ocsf_item.specs.MergedDictionary.{merged_entry, merged_type}
+use Rattle.ocsf_rules.specs.MergedDictionary.{merged_entry, merged_type}
 use Rattle.ocsf_compiler.proofs.ByNames.{IsByName-filter_map, IsByName-map}
 use Rattle.ocsf_compiler.proofs.Layered.{said_by_key}
 

@@ -19,9 +19,9 @@ use Rattle.ocsf_schema.specs.Print.{words, number, flag, enumeration}
 use Rattle.ocsf_schema.proofs.ValidFragments.{IsValidField, object_of_valid, words_valid, number_valid, flag_valid, words_list_valid, enumeration_valid}
 use Rattle.ocsf_bundle.specs.Looks.{Looks, CategoryOf, BuiltIn, Listed, show_category}
 use Rattle.ocsf_bundle.specs.Shown.{Ext, Profile}
-use Rattle.ocsf_item.specs.Names.{first_of}
-use Rattle.ocsf_item.specs.Compiled.{category_of, category_number}
-use Rattle.ocsf_item.specs.PrintedSchema.{member, member_of, category_description, category_tree, extension_tree, profile_tree, texts_tree, entry_tree, span_tree, type_tree}
+use Rattle.ocsf_rules.specs.Names.{first_of}
+use Rattle.ocsf_rules.specs.Compiled.{category_of, category_number}
+use Rattle.ocsf_rules.specs.PrintedSchema.{member, member_of, category_description, category_tree, extension_tree, profile_tree, texts_tree, entry_tree, span_tree, type_tree}
 use Rattle.ocsf_compiler.specs.declared.sections.Section.{Section}
 use Rattle.ocsf_compiler.specs.declared.sections.Section.TheVariants as section
 use Rattle.ocsf_compiler.specs.Sections.{part_tree, first_tree, member_at, section_tree}

@@ -12,8 +12,8 @@ use Rattle.ocsf_tree.proofs.LeastFaults.{least_is_least}
 use Rattle.ocsf_schema.specs.declared.records.Item.{Item}
 use Rattle.ocsf_schema.specs.Lookups.{IsByKey}
 use Rattle.ocsf_bundle.specs.Looks.{Looks}
-use Rattle.ocsf_item.specs.Compiled.{item}
-use Rattle.ocsf_item.specs.ItemFaults.{item_fault}
+use Rattle.ocsf_rules.specs.Compiled.{item}
+use Rattle.ocsf_rules.specs.ItemFaults.{item_fault}
 use Rattle.ocsf_compiler.specs.Building.{unless_fault, sound_item}
 
 none_of : {A : Type 0} (o : Option A) (xs : List A) → cons_option o xs ≡ [] → (o ≡ None) × (xs ≡ [])

@@ -9,9 +9,9 @@ use Rattle.ocsf_schema.specs.declared.records.Item.{Item}
 use Rattle.ocsf_schema.specs.Lookups.{class_at}
 use Rattle.ocsf_bundle.specs.Looks.{Looks}
 use Rattle.ocsf_bundle.specs.BundleFaults.{fault_if}
-use Rattle.ocsf_item.specs.Compiled.{item}
-use Rattle.ocsf_item.specs.ItemFaults.{fault, item_fault}
-use Rattle.ocsf_item.specs.SchemaFaults.{comes_before, max_print}
+use Rattle.ocsf_rules.specs.Compiled.{item}
+use Rattle.ocsf_rules.specs.ItemFaults.{fault, item_fault}
+use Rattle.ocsf_rules.specs.SchemaFaults.{comes_before, max_print}
 use Rattle.ocsf_compiler.specs.declared.compile_error.CompileError.{CompileError}
 use Rattle.ocsf_compiler.specs.declared.compile_error.CompileError.TheVariants as error
 

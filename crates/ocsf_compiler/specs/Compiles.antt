@@ -1,7 +1,7 @@
 -- Why a bundle has no compilation.
 use Rattle.std.specs.Prelude.{Some, ⊤}
 use Rattle.ocsf_bundle.specs.Stored.{Stored}
-use Rattle.ocsf_item.specs.Verdict.{IsVerdict}
+use Rattle.ocsf_rules.specs.Verdict.{IsVerdict}
 use Rattle.ocsf_compiler.specs.declared.compile_error.CompileError.{CompileError}
 use Rattle.ocsf_compiler.specs.declared.compile_error.CompileError.TheVariants as error
 

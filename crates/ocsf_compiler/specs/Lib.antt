@@ -1,5 +1,4 @@
 pub mod Building
 pub mod Compiles
-pub mod Laws
 pub mod Layers
 pub mod Sections

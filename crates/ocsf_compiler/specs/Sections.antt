@@ -7,7 +7,7 @@ use Rattle.ocsf_bundle.specs.Shown.{Shown, Profile, Category, Other, Ext}
 use Rattle.ocsf_bundle.specs.Looks.{Looks, BuiltIn, Listed, look}
 use Rattle.ocsf_bundle.specs.declared.cells.Cell.{Cell}
 use Rattle.ocsf_bundle.specs.declared.cells.Cell.TheVariants as cell
-use Rattle.ocsf_item.specs.PrintedSchema.{member, by_name, category_tree, extension_tree, profile_tree}
+use Rattle.ocsf_rules.specs.PrintedSchema.{member, by_name, category_tree, extension_tree, profile_tree}
 use Rattle.ocsf_compiler.specs.declared.sections.Section.{Section}
 use Rattle.ocsf_compiler.specs.declared.sections.Section.TheVariants as section
 

@@ -3,8 +3,8 @@ ghost use Rattle.std.specs.Prelude.{◌≡◌, [], IfOk, All, map, slice_get};
 ghost use Rattle.std.specs.Option.{option_copied, option_and_then, option_or, IfSome};
 ghost use Rattle.ocsf_raw.specs.Ordered.{IsByKey};
 ghost use Rattle.ocsf_bundle.specs.Looks.{look};
-ghost use Rattle.ocsf_item.specs.Attribute.{dict_said};
-ghost use Rattle.ocsf_item.specs.MergedDictionary.{entry_said, merged_entry};
+ghost use Rattle.ocsf_rules.specs.Attribute.{dict_said};
+ghost use Rattle.ocsf_rules.specs.MergedDictionary.{entry_said, merged_entry};
 ghost use Rattle.ocsf_compiler.specs.Layers.{as_entry, entry_over};
 
 use ocsf_bundle::{Cell, Part, Shows};

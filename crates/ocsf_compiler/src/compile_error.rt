@@ -1,3 +1,4 @@
+// Why a bundle isn't compiled.
 use ocsf_tree::Fault;
 use std::alloc::AllocError;
 

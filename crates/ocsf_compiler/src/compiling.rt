@@ -3,8 +3,8 @@ ghost use Rattle.std.specs.Prelude.{◌≡◌, ◌+◌, None, IfOk, IfErr, OnOk,
 ghost use Rattle.ocsf_tree.specs.ByName.{IsByName};
 ghost use Rattle.ocsf_raw.specs.Ordered.{IsTypeValid};
 ghost use Rattle.ocsf_bundle.specs.Listing.{listing};
-ghost use Rattle.ocsf_item.specs.Compilation.{IsCompilation};
-ghost use Rattle.ocsf_item.specs.Verdict.{types_of, bundle_fault, IsFaultless, IsVerdict};
+ghost use Rattle.ocsf_rules.specs.Compilation.{IsCompilation};
+ghost use Rattle.ocsf_rules.specs.Verdict.{types_of, bundle_fault, IsFaultless, IsVerdict};
 ghost use Rattle.ocsf_compiler.specs.Building.{IsLeast};
 ghost use Rattle.ocsf_compiler.specs.Compiles.{IsRefusedFor};
 

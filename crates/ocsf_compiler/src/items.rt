@@ -4,8 +4,8 @@ ghost use Rattle.std.specs.Result.{result_ok, result_err};
 ghost use Rattle.ocsf_tree.specs.LeastFault.{least_fault};
 ghost use Rattle.ocsf_bundle.specs.FilesLook.{looks};
 ghost use Rattle.ocsf_bundle.specs.Listing.{listing};
-ghost use Rattle.ocsf_item.specs.ItemFaults.{item_fault};
-ghost use Rattle.ocsf_item.specs.PrintedSchema.{items};
+ghost use Rattle.ocsf_rules.specs.ItemFaults.{item_fault};
+ghost use Rattle.ocsf_rules.specs.PrintedSchema.{items};
 ghost use Rattle.ocsf_compiler.specs.Building.{sound_item, IsLeast};
 
 use crate::compile_error::CompileError;

@@ -4,7 +4,7 @@ ghost use Rattle.std.specs.Result.{result_ok};
 ghost use Rattle.ocsf_tree.specs.ByName.{IsByName, put_by_name};
 ghost use Rattle.ocsf_kind.specs.Kinds.{kind_of};
 ghost use Rattle.ocsf_bundle.specs.Listing.{in_byte_order};
-ghost use Rattle.ocsf_item.specs.MergedDictionary.{base_types};
+ghost use Rattle.ocsf_rules.specs.MergedDictionary.{base_types};
 
 use ocsf_kind::{KindError, kind_of};
 use ocsf_raw::TypeEntry;

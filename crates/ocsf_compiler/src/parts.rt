@@ -3,8 +3,8 @@ ghost use Rattle.std.specs.Prelude.{◌≡◌, IfOk, All};
 ghost use Rattle.ocsf_tree.specs.ByName.{IsByName};
 ghost use Rattle.ocsf_tree.specs.Valid.{IsValid};
 ghost use Rattle.ocsf_raw.specs.Ordered.{IsTypeValid};
-ghost use Rattle.ocsf_item.specs.Compilation.{compilation};
-ghost use Rattle.ocsf_item.specs.Verdict.{types_of};
+ghost use Rattle.ocsf_rules.specs.Compilation.{compilation};
+ghost use Rattle.ocsf_rules.specs.Verdict.{types_of};
 
 use crate::attributes::merged_entries;
 use crate::kinds::{data_types, kinds};

@@ -1,7 +1,7 @@
 // The patterns of types, as `regex` takes them.
 ghost use Rattle.std.specs.Prelude.{◌≡◌, true, false, None, IfOk, IfSome, IsSomeAnd};
-ghost use Rattle.ocsf_item.specs.Patterns.{IsRead, IsGood};
-ghost use Rattle.ocsf_item.specs.Verdict.{HasReadPattern, pattern_refused, IsPatternVerdict};
+ghost use Rattle.ocsf_rules.specs.Patterns.{IsRead, IsGood};
+ghost use Rattle.ocsf_rules.specs.Verdict.{HasReadPattern, pattern_refused, IsPatternVerdict};
 
 use ocsf_raw::TypeEntry;
 use ocsf_tree::{Code, Fault, Text};

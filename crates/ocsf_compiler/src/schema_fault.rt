@@ -3,8 +3,8 @@ ghost use Rattle.std.specs.Prelude.{◌≡◌, ◌++◌, IfOk, length, decimal, 
 ghost use Rattle.std.specs.Option.{option_or};
 ghost use Rattle.ocsf_tree.specs.LeastFault.{least_fault};
 ghost use Rattle.ocsf_schema.specs.Schema.{schema_text};
-ghost use Rattle.ocsf_item.specs.SchemaFaults.{comes_before};
-ghost use Rattle.ocsf_item.specs.ItemFaults.{fault};
+ghost use Rattle.ocsf_rules.specs.SchemaFaults.{comes_before};
+ghost use Rattle.ocsf_rules.specs.ItemFaults.{fault};
 ghost use Rattle.ocsf_compiler.specs.Building.{is_taken_in, clash_of, clash_in, large_fault};
 
 use ocsf_bundle::lesser_of;

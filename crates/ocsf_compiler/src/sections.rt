@@ -6,7 +6,7 @@ ghost use Rattle.ocsf_tree.specs.Valid.{IsValid, IsValidList};
 ghost use Rattle.ocsf_tree.specs.declared.tree.Tree.TheVariants as tree;
 ghost use Rattle.ocsf_bundle.specs.Shown.{shown};
 ghost use Rattle.ocsf_bundle.specs.Looks.{Listed, BuiltIn};
-ghost use Rattle.ocsf_item.specs.PrintedSchema.{category_tree, extension_tree, profile_tree, texts_tree};
+ghost use Rattle.ocsf_rules.specs.PrintedSchema.{category_tree, extension_tree, profile_tree, texts_tree};
 ghost use Rattle.ocsf_compiler.specs.Sections.{cell_of, part_tree, first_tree, member_at, section_tree};
 
 use ocsf_bundle::{Cell, Part, Shows};

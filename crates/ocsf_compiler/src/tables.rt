@@ -6,7 +6,7 @@ ghost use Rattle.ocsf_tree.specs.Valid.{IsValid};
 ghost use Rattle.ocsf_tree.specs.declared.tree.Tree.TheVariants as tree;
 ghost use Rattle.ocsf_raw.specs.Ordered.{IsByKey, IsTypeValid};
 ghost use Rattle.ocsf_schema.specs.Print.{number};
-ghost use Rattle.ocsf_item.specs.PrintedSchema.{member, entry_tree, span_tree, type_tree};
+ghost use Rattle.ocsf_rules.specs.PrintedSchema.{member, entry_tree, span_tree, type_tree};
 
 use ocsf_raw::{DictEntry, TypeEntry};
 use ocsf_schema::{enumeration_field, flag_field, put_field, words_field};

@@ -3,7 +3,7 @@ ghost use Rattle.std.specs.Prelude.{◌≡◌, [], IfOk, All, map, slice_get};
 ghost use Rattle.std.specs.Option.{option_copied, option_and_then, IfSome};
 ghost use Rattle.ocsf_raw.specs.Ordered.{IsTypeValid};
 ghost use Rattle.ocsf_bundle.specs.Looks.{look};
-ghost use Rattle.ocsf_item.specs.MergedDictionary.{merged_layers, merged_type};
+ghost use Rattle.ocsf_rules.specs.MergedDictionary.{merged_layers, merged_type};
 ghost use Rattle.ocsf_compiler.specs.Layers.{as_type, type_over};
 
 use crate::attributes::later;

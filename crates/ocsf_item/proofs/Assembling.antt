@@ -11,15 +11,15 @@ use Rattle.ocsf_bundle.specs.CellOrder.{cell_cmp}
 use Rattle.ocsf_bundle.specs.declared.cells.Cell.{Cell}
 use Rattle.ocsf_bundle.specs.contracts.cells.CellOrd.TheImpl.{ghosts}
 use Rattle.ocsf_bundle.proofs.CellOrders.{derived_order}
-use Rattle.ocsf_item.specs.declared.category.Category.{Category}
+use Rattle.ocsf_rules.specs.declared.category.Category.{Category}
 use Rattle.ocsf_item.specs.declared.own.Own.{Own}
-use Rattle.ocsf_item.specs.Names.{ext_of}
-use Rattle.ocsf_item.specs.Chain.{keys_up, from_there, chain, parent, speakers, layers}
-use Rattle.ocsf_item.specs.Attribute.{attr_of}
-use Rattle.ocsf_item.specs.Compiled.{caption, description, is_hidden, category, category_number, class_number, profile_keys, at_least_one, just_one, numbered, computed, item}
+use Rattle.ocsf_rules.specs.Names.{ext_of}
+use Rattle.ocsf_rules.specs.Chain.{keys_up, from_there, chain, parent, speakers, layers}
+use Rattle.ocsf_rules.specs.Attribute.{attr_of}
+use Rattle.ocsf_rules.specs.Compiled.{caption, description, is_hidden, category, category_number, class_number, profile_keys, at_least_one, just_one, numbered, computed, item}
 use Rattle.ocsf_item.specs.Assembled.{item_from}
-use Rattle.ocsf_item.specs.InOrder.{in_order}
-use Rattle.ocsf_item.specs.Reads.{ext_reads, key_reads, speaker_reads, category_reads, attribute_reads, cells_read, reads}
+use Rattle.ocsf_rules.specs.InOrder.{in_order}
+use Rattle.ocsf_rules.specs.Reads.{ext_reads, key_reads, speaker_reads, category_reads, attribute_reads, cells_read, reads}
 
 -- the second key of a chain is the parent
 pub second_key : (b : Looks) (k : Key) → slice_get (chain b k) 1 ≡ parent b k

@@ -13,11 +13,11 @@ use Rattle.ocsf_merge.specs.declared.spoken.Spoken.{Spoken}
 use Rattle.ocsf_merge.specs.Table.{table_of}
 use Rattle.ocsf_merge.proofs.TablesByName.{IsByName-table_of}
 use Rattle.ocsf_bundle.specs.Looks.{Looks}
-use Rattle.ocsf_item.specs.declared.computed.Numbered.{Numbered}
-use Rattle.ocsf_item.specs.Names.{ext_of}
-use Rattle.ocsf_item.specs.Chain.{layers}
-use Rattle.ocsf_item.specs.Attribute.{attr_of, members_of, dict_said}
-use Rattle.ocsf_item.specs.Compiled.{class_members, category_members, type_member, type_members, computed_members, computed, numbered, item}
+use Rattle.ocsf_rules.specs.declared.numbered.Numbered.{Numbered}
+use Rattle.ocsf_rules.specs.Names.{ext_of}
+use Rattle.ocsf_rules.specs.Chain.{layers}
+use Rattle.ocsf_rules.specs.Attribute.{attr_of, members_of, dict_said}
+use Rattle.ocsf_rules.specs.Compiled.{class_members, category_members, type_member, type_members, computed_members, computed, numbered, item}
 
 abbrev AreByKey : List EnumMember → Type 0
 AreByKey members = IsByName (λ m. m.key) members

@@ -6,9 +6,9 @@ use Rattle.ocsf_tree.specs.declared.fault.Fault.{Fault}
 use Rattle.ocsf_tree.specs.LeastFault.{least_from, lesser_fault}
 use Rattle.ocsf_bundle.specs.Looks.{Looks}
 use Rattle.ocsf_bundle.specs.declared.cells.Cell.{Cell}
-use Rattle.ocsf_item.specs.Chain.{keys_up, from_there, parent, chain}
-use Rattle.ocsf_item.specs.ItemFaults.{parent_fault}
-use Rattle.ocsf_item.specs.Reads.{key_reads}
+use Rattle.ocsf_rules.specs.Chain.{keys_up, from_there, parent, chain}
+use Rattle.ocsf_rules.specs.ItemFaults.{parent_fault}
+use Rattle.ocsf_rules.specs.Reads.{key_reads}
 
 -- faults looked at one after another
 pub least_from-append : (least : Option Fault) (fs gs : List Fault) → least_from least (fs ++ gs) ≡ least_from (least_from least fs) gs

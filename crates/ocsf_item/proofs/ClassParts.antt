@@ -8,11 +8,11 @@ use Rattle.ocsf_tree.specs.declared.fault.Code.TheVariants as code
 use Rattle.ocsf_tree.specs.Key.{key_text}
 use Rattle.ocsf_kind.specs.Numbers.{class_uid}
 use Rattle.ocsf_bundle.specs.Looks.{Looks}
-use Rattle.ocsf_item.specs.declared.category.Category.{Category}
-use Rattle.ocsf_item.specs.declared.computed.Numbered.{Numbered}
-use Rattle.ocsf_item.specs.Names.{ext_of}
-use Rattle.ocsf_item.specs.Compiled.{uid, category, ext_uid, class_number, caption_or_key, activities, numbered}
-use Rattle.ocsf_item.specs.ItemFaults.{fault, is_small_decimal, activity_fault, activity_faults, activities_faults}
+use Rattle.ocsf_rules.specs.declared.category.Category.{Category}
+use Rattle.ocsf_rules.specs.declared.numbered.Numbered.{Numbered}
+use Rattle.ocsf_rules.specs.Names.{ext_of}
+use Rattle.ocsf_rules.specs.Compiled.{uid, category, ext_uid, class_number, caption_or_key, activities, numbered}
+use Rattle.ocsf_rules.specs.ItemFaults.{fault, is_small_decimal, activity_fault, activity_faults, activities_faults}
 use Rattle.ocsf_item.specs.Ranges.{are_small}
 use Rattle.ocsf_item.specs.Digits.{numbered_by}
 

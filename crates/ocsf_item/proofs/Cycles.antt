@@ -3,7 +3,7 @@ use Rattle.std.proofs.Common.{◌≡◌, ℕ, suc, ◌+◌, ◌-◌, ◌≤◌, 
 use Rattle.std.specs.Prelude.{not, slice_index_or}
 use Rattle.std.specs.List.{list_any, prefix_len, take_while}
 use Rattle.ocsf_tree.specs.declared.key.Key.{Key}
-use Rattle.ocsf_item.specs.ItemFaults.{same_key, cycle_in}
+use Rattle.ocsf_rules.specs.ItemFaults.{same_key, cycle_in}
 use Rattle.ocsf_item.proofs.Lists.{take_all}
 
 abbrev pub len_of : Key → List Key → Option ℕ

@@ -3,8 +3,8 @@ use Rattle.std.proofs.Common.{◌≡◌, ℕ, ◌+◌, ◌≤◌, List, [], ◌�
 use Rattle.std.specs.Prelude.{slice_get, flat_map}
 use Rattle.std.proofs.lemmas.List.{reverse-append}
 use Rattle.ocsf_bundle.specs.Looks.{DictOf}
-use Rattle.ocsf_item.specs.declared.dictionary.DictSaid.{DictSaid}
-use Rattle.ocsf_item.specs.Attribute.{dict_said, first_said, type_said_in}
+use Rattle.ocsf_rules.specs.declared.said.DictSaid.{DictSaid}
+use Rattle.ocsf_rules.specs.Attribute.{dict_said, first_said, type_said_in}
 use Rattle.ocsf_item.specs.Dictionary.{dict_over}
 use Rattle.ocsf_item.proofs.Lists.{take_none, take_some, take_all}
 

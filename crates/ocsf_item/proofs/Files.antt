@@ -6,9 +6,9 @@ use Rattle.ocsf_raw.specs.declared.attribute.RawAttr.{RawAttr}
 use Rattle.ocsf_bundle.specs.Looks.{Looks}
 use Rattle.ocsf_item.specs.declared.walk.Walk.{Walk}
 use Rattle.ocsf_item.specs.declared.speakers.Speaker.{Speaker as Lent}
-use Rattle.ocsf_item.specs.Chain.{Speaker, include_layer, listed_layer, plain_layer, layers_of}
-use Rattle.ocsf_item.specs.ItemFaults.{entry_fault, include_faults, listed_faults, speaker_faults}
-use Rattle.ocsf_item.specs.Reads.{entry_reads, include_reads, listed_reads, speaker_reads}
+use Rattle.ocsf_rules.specs.Chain.{Speaker, include_layer, listed_layer, plain_layer, layers_of}
+use Rattle.ocsf_rules.specs.ItemFaults.{entry_fault, include_faults, listed_faults, speaker_faults}
+use Rattle.ocsf_rules.specs.Reads.{entry_reads, include_reads, listed_reads, speaker_reads}
 use Rattle.ocsf_item.specs.Speakers.{speaker_of}
 use Rattle.ocsf_item.specs.Walk.{Hears}
 use Rattle.ocsf_item.proofs.Hearings.{hears_then, hears_more}

@@ -6,9 +6,9 @@ use Rattle.std.specs.Option.{option_or}
 use Rattle.std.proofs.lemmas.List.{reverse-append, take_more, map-append}
 use Rattle.ocsf_item.specs.declared.given.Given.{Given}
 use Rattle.ocsf_item.specs.declared.speakers.Speaker.{Speaker as Lent}
-use Rattle.ocsf_item.specs.Chain.{Speaker}
-use Rattle.ocsf_item.specs.Names.{first_of}
-use Rattle.ocsf_item.specs.Compiled.{first_given, last_given, written_in}
+use Rattle.ocsf_rules.specs.Chain.{Speaker}
+use Rattle.ocsf_rules.specs.Names.{first_of}
+use Rattle.ocsf_rules.specs.Compiled.{first_given, last_given, written_in}
 use Rattle.ocsf_item.specs.Given.{given_by, given_over}
 use Rattle.ocsf_item.specs.Speakers.{speaker_of}
 

@@ -9,7 +9,7 @@ use Rattle.ocsf_bundle.specs.declared.cells.Cell.{Cell}
 use Rattle.ocsf_merge.specs.Layers.{Layer}
 use Rattle.ocsf_merge.specs.Table.{table_of}
 use Rattle.ocsf_item.specs.declared.walk.Walk.{Walk}
-use Rattle.ocsf_item.specs.Compiled.{profile_keys}
+use Rattle.ocsf_rules.specs.Compiled.{profile_keys}
 use Rattle.ocsf_item.specs.Walk.{Hears}
 use Rattle.ocsf_item.proofs.Chains.{least_from-append}
 use Rattle.ocsf_item.proofs.Lists.{flat_map_more}

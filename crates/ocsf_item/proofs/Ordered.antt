@@ -5,7 +5,7 @@ use Rattle.std.specs.declared.cmp.Ordering.TheVariants.{Less, Equal, Greater}
 use Rattle.std.specs.Ordering.{match_ordering}
 use Rattle.std.specs.BTreeSet.{insert_key}
 use Rattle.std.specs.FinMap.Entries.{by_order}
-use Rattle.ocsf_item.specs.InOrder.{put_in_order, in_order, put_onto}
+use Rattle.ocsf_rules.specs.InOrder.{put_in_order, in_order, put_onto}
 
 module _ {X : Type 0} (cmp : X → X → Ordering) where
   put_onto-nil : (xs : List X) → put_onto cmp xs [] ≡ in_order cmp xs

@@ -2,7 +2,7 @@
 use Rattle.std.proofs.Common.{◌≡◌, ℕ, suc, ◌+◌, List, [], ◌∷◌, true, false, cond, not, ◌||◌, length, refl, sym, ap, arith, if◌then◌else◌}
 use Rattle.std.specs.List.{position_or_len, before_first}
 use Rattle.ocsf_raw.specs.Names.{is_slash}
-use Rattle.ocsf_item.specs.Names.{has_slash, ext_of}
+use Rattle.ocsf_rules.specs.Names.{has_slash, ext_of}
 
 lacks : (s : List ℕ) → position_or_len is_slash s ≡ length s → has_slash s ≡ false
 lacks [] e = refl

@@ -8,8 +8,8 @@ use Rattle.ocsf_tree.specs.declared.key.Key.{Key}
 use Rattle.ocsf_raw.specs.Ordered.{AreEntriesOrdered}
 use Rattle.ocsf_bundle.specs.Looks.{Looks, PatchOf}
 use Rattle.ocsf_item.specs.declared.speakers.Speaker.{Speaker as Lent}
-use Rattle.ocsf_item.specs.Names.{has_slash}
-use Rattle.ocsf_item.specs.Chain.{Speaker, own_file, own_speaker, patch_speaker, speakers_of}
+use Rattle.ocsf_rules.specs.Names.{has_slash}
+use Rattle.ocsf_rules.specs.Chain.{Speaker, own_file, own_speaker, patch_speaker, speakers_of}
 use Rattle.ocsf_item.specs.Speakers.{speaker_of, AreSpeakersOrdered, Speaks}
 use Rattle.ocsf_item.proofs.Lists.{take_none, take_some, take_all, flat_map_more}
 

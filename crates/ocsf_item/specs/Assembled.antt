@@ -5,9 +5,9 @@ use Rattle.ocsf_tree.specs.declared.key.Key.{Key}
 use Rattle.ocsf_tree.specs.FirstOfEach.{first_of_each}
 use Rattle.ocsf_schema.specs.declared.records.Attr.{Attr}
 use Rattle.ocsf_schema.specs.declared.records.Item.{Item}
-use Rattle.ocsf_item.specs.declared.category.Category.{Category}
+use Rattle.ocsf_rules.specs.declared.category.Category.{Category}
 use Rattle.ocsf_item.specs.declared.own.Own.{Own}
-use Rattle.ocsf_item.specs.Compiled.{category_number}
+use Rattle.ocsf_rules.specs.Compiled.{category_number}
 
 abbrev pub item_from : Key → Option (List ℕ) → Own → Option Category → Option ℕ → List (List ℕ) → List (List ℕ) → List (List ℕ) → List Attr → Item
 item_from k parent own category number profiles at_least_one just_one attrs = record {

@@ -6,7 +6,7 @@ use Rattle.ocsf_bundle.specs.Looks.{Looks}
 use Rattle.ocsf_bundle.specs.declared.cells.Cell.{Cell}
 use Rattle.ocsf_item.specs.declared.build_error.BuildError.{BuildError}
 use Rattle.ocsf_item.specs.declared.build_error.BuildError.TheVariants as error
-use Rattle.ocsf_item.specs.ItemFaults.{item_fault}
+use Rattle.ocsf_rules.specs.ItemFaults.{item_fault}
 
 -- an item with the cells that it reads
 pub record BuiltItem : Type 0 where

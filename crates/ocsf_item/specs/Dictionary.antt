@@ -5,8 +5,8 @@ use Rattle.ocsf_bundle.specs.Looks.{DictOf}
 use Rattle.ocsf_bundle.specs.declared.cells.Cell.{Cell}
 use Rattle.ocsf_bundle.specs.declared.cells.Cell.TheVariants as cell
 use Rattle.ocsf_item.specs.declared.dictionary.DictLayer.{DictLayer}
-use Rattle.ocsf_item.specs.declared.dictionary.DictSaid.{DictSaid}
-use Rattle.ocsf_item.specs.Attribute.{type_said_in}
+use Rattle.ocsf_rules.specs.declared.said.DictSaid.{DictSaid}
+use Rattle.ocsf_rules.specs.Attribute.{type_said_in}
 
 abbrev pub dict_of : DictLayer → DictOf
 dict_of layer = record { ext = layer.ext.now; entry = layer.entry.now }

@@ -3,9 +3,9 @@ use Rattle.std.specs.Prelude.{ℕ, List, Option, Some, None, if◌then◌else◌
 use Rattle.std.specs.Option.{option_map, option_and_then}
 use Rattle.std.specs.Str.Parse.{digits_value}
 use Rattle.ocsf_tree.specs.declared.attribute.EnumMember.{EnumMember}
-use Rattle.ocsf_item.specs.declared.category.Category.{Category}
-use Rattle.ocsf_item.specs.declared.computed.Numbered.{Numbered}
-use Rattle.ocsf_item.specs.ItemFaults.{is_small_decimal}
+use Rattle.ocsf_rules.specs.declared.category.Category.{Category}
+use Rattle.ocsf_rules.specs.declared.numbered.Numbered.{Numbered}
+use Rattle.ocsf_rules.specs.ItemFaults.{is_small_decimal}
 
 -- the number that a decimal from 0 to 99 writes
 abbrev pub small_number : List ℕ → Option ℕ

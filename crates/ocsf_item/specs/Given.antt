@@ -2,8 +2,8 @@
 use Rattle.std.specs.Prelude.{List}
 use Rattle.std.specs.Option.{option_or}
 use Rattle.ocsf_item.specs.declared.given.Given.{Given}
-use Rattle.ocsf_item.specs.Chain.{Speaker}
-use Rattle.ocsf_item.specs.Compiled.{last_given, written_in}
+use Rattle.ocsf_rules.specs.Chain.{Speaker}
+use Rattle.ocsf_rules.specs.Compiled.{last_given, written_in}
 
 -- each field as the last of these files gives it
 abbrev pub given_by : List Speaker → Given

@@ -2,9 +2,9 @@
 use Rattle.std.specs.Prelude.{◌≡◌, ◌≤◌, Bool, true, List}
 use Rattle.std.specs.List.{list_all}
 use Rattle.ocsf_tree.specs.declared.attribute.EnumMember.{EnumMember}
-use Rattle.ocsf_item.specs.declared.category.Category.{Category}
-use Rattle.ocsf_item.specs.declared.computed.Numbered.{Numbered}
-use Rattle.ocsf_item.specs.ItemFaults.{is_small_decimal}
+use Rattle.ocsf_rules.specs.declared.category.Category.{Category}
+use Rattle.ocsf_rules.specs.declared.numbered.Numbered.{Numbered}
+use Rattle.ocsf_rules.specs.ItemFaults.{is_small_decimal}
 
 abbrev pub IsCategoryInRange : Category → Type 0
 IsCategoryInRange c = (c.ext_uid ≤ 999) × (c.uid ≤ 99)

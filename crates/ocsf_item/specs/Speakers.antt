@@ -7,7 +7,7 @@ use Rattle.ocsf_bundle.specs.declared.cells.Cell.{Cell}
 use Rattle.ocsf_bundle.specs.declared.cells.Cell.TheVariants as cell
 use Rattle.ocsf_item.specs.declared.speakers.Patch.{Patch}
 use Rattle.ocsf_item.specs.declared.speakers.Speaker.{Speaker as Lent}
-use Rattle.ocsf_item.specs.Chain.{Speaker}
+use Rattle.ocsf_rules.specs.Chain.{Speaker}
 
 abbrev pub patch_of : Patch → PatchOf
 patch_of p = record { ext = p.ext.now; file = p.file.now }

@@ -10,8 +10,8 @@ use Rattle.ocsf_bundle.specs.declared.cells.Cell.TheVariants as cell
 use Rattle.ocsf_merge.specs.Layers.{Layer}
 use Rattle.ocsf_merge.specs.Table.{table_of}
 use Rattle.ocsf_item.specs.declared.walk.Walk.{Walk}
-use Rattle.ocsf_item.specs.Chain.{layer_at}
-use Rattle.ocsf_item.specs.Compiled.{profile_keys}
+use Rattle.ocsf_rules.specs.Chain.{layer_at}
+use Rattle.ocsf_rules.specs.Compiled.{profile_keys}
 
 -- those layers were heard besides, with those cells and those faults
 pub record Hears (old new : Walk) (layers : List Layer) (cells : List Cell) (faults : List Fault) : Type 0 where

@@ -1,13 +1,13 @@
 // An item from its parts.
 ghost use Rattle.std.specs.Prelude.{◌≡◌, [], IfOk, IfSome, unwrap_or};
 ghost use Rattle.std.specs.Option.{option_map};
-ghost use Rattle.ocsf_item.specs.declared.category.Category.{Category};
+ghost use Rattle.ocsf_rules.specs.declared.category.Category.{Category};
 ghost use Rattle.ocsf_item.specs.Assembled.{item_from};
 ghost use Rattle.ocsf_item.specs.Ranges.{IsCategoryInRange};
 
 use crate::categories::category_number;
-use crate::category::Category;
 use crate::own::Own;
+use ocsf_rules::Category;
 use ocsf_schema::{Attr, Item};
 use ocsf_tree::{Key, Row, Text, TryClone, first_of_each};
 use std::alloc::{AllocError, Global};

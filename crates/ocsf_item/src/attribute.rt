@@ -3,17 +3,18 @@ ghost use Rattle.std.specs.Prelude.{◌≡◌, ◌++◌, ◌∷◌, [], None, If
 ghost use Rattle.std.specs.Option.{option_map, option_copied, option_or};
 ghost use Rattle.ocsf_schema.specs.declared.records.Target.TheVariants.{Anything};
 ghost use Rattle.ocsf_bundle.specs.Looks.{is_there};
-ghost use Rattle.ocsf_item.specs.Names.{tried, exists_cell, profile_cells, profile_named};
-ghost use Rattle.ocsf_item.specs.Attribute.{type_of, members_of, mark_key, profile_of, is_open_object, open_object, only_in, object_cells, object_named, target_named, attr_from};
-ghost use Rattle.ocsf_item.specs.Reads.{mark_reads, profile_reads, type_reads};
+ghost use Rattle.ocsf_rules.specs.Names.{tried, exists_cell, profile_cells, profile_named};
+ghost use Rattle.ocsf_rules.specs.Attribute.{type_of, members_of, mark_key, profile_of, is_open_object, open_object, only_in, object_cells, object_named, target_named, attr_from};
+ghost use Rattle.ocsf_rules.specs.Reads.{mark_reads, profile_reads, type_reads};
 ghost use Rattle.ocsf_item.specs.Typed.{type_lent, kind_cell, object_target};
 ghost use Rattle.ocsf_tree.specs.declared.key.Side.TheVariants.{Object};
 
-use crate::dictionary::{DictSaid, given_or, members_joined};
+use crate::dictionary::{given_or, members_joined};
 use crate::names::{has_slash, in_extension, is_shown, profile_cells, resolve};
 use ocsf_bundle::{Cell, Shows};
 use ocsf_merge::Spoken;
 use ocsf_raw::Mark;
+use ocsf_rules::DictSaid;
 use ocsf_schema::{Attr, Base, Target};
 use ocsf_tree::{EnumMember, Key, Requirement, Row, Side, Text, TryClone, first_of_each};
 use std::alloc::{AllocError, Global};

@@ -1,3 +1,4 @@
+// Why an item isn't built.
 use ocsf_tree::Fault;
 use std::alloc::AllocError;
 

@@ -2,15 +2,15 @@
 ghost use Rattle.std.specs.Prelude.{◌≡◌, ◌≤◌, ◌++◌, [], ℕ, IfOk, OnOk, IfSome};
 ghost use Rattle.std.specs.Option.{option_map, option_map_or, option_and_then};
 ghost use Rattle.ocsf_kind.specs.Numbers.{class_uid};
-ghost use Rattle.ocsf_item.specs.declared.category.Category.{Category};
-ghost use Rattle.ocsf_item.specs.Names.{first_of, tried, category_cells};
-ghost use Rattle.ocsf_item.specs.Compiled.{category_of, category_named, category_number, ext_uid};
+ghost use Rattle.ocsf_rules.specs.declared.category.Category.{Category};
+ghost use Rattle.ocsf_rules.specs.Names.{first_of, tried, category_cells};
+ghost use Rattle.ocsf_rules.specs.Compiled.{category_of, category_named, category_number, ext_uid};
 ghost use Rattle.ocsf_item.specs.Ranges.{IsCategoryInRange};
 
-use crate::category::{Category, Written};
 use crate::names::{category_cells, resolve};
 use ocsf_bundle::{Cell, Part, Shows};
 use ocsf_kind::class_uid;
+use ocsf_rules::{Category, Written};
 use ocsf_tree::{Row, Text, TryClone};
 use std::alloc::{AllocError, Global};
 

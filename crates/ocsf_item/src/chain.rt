@@ -3,10 +3,10 @@ ghost use Rattle.std.specs.Prelude.{◌≡◌, ◌≤◌, ◌++◌, flat_map, Op
 ghost use Rattle.std.specs.Option.{option_copied};
 ghost use Rattle.ocsf_raw.specs.Ordered.{AreEntriesOrdered};
 ghost use Rattle.ocsf_tree.specs.LeastFault.{least_from, least_fault};
-ghost use Rattle.ocsf_item.specs.Chain.{own_file, parent, parent_named, chain};
-ghost use Rattle.ocsf_item.specs.Names.{tried, item_cells, ext_of};
-ghost use Rattle.ocsf_item.specs.ItemFaults.{parent_fault};
-ghost use Rattle.ocsf_item.specs.Reads.{key_reads, parent_reads};
+ghost use Rattle.ocsf_rules.specs.Chain.{own_file, parent, parent_named, chain};
+ghost use Rattle.ocsf_rules.specs.Names.{tried, item_cells, ext_of};
+ghost use Rattle.ocsf_rules.specs.ItemFaults.{parent_fault};
+ghost use Rattle.ocsf_rules.specs.Reads.{key_reads, parent_reads};
 
 use crate::names::{ext_of, has_slash, item_cells, resolve};
 use ocsf_bundle::{Cell, Part, Shows};

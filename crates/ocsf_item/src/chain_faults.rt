@@ -6,9 +6,9 @@ ghost use Rattle.ocsf_tree.specs.ByName.{text_cmp};
 ghost use Rattle.ocsf_tree.specs.Key.{key_text};
 ghost use Rattle.ocsf_tree.specs.LeastFault.{least_fault};
 ghost use Rattle.ocsf_bundle.specs.Looks.{is_there};
-ghost use Rattle.ocsf_item.specs.Chain.{written_parent};
+ghost use Rattle.ocsf_rules.specs.Chain.{written_parent};
 ghost use Rattle.std.specs.Option.{option_copied};
-ghost use Rattle.ocsf_item.specs.ItemFaults.{same_key, cycle_in, lesser_key, least_key, cycle_fault, limit_fault, parent_fault, faults_along};
+ghost use Rattle.ocsf_rules.specs.ItemFaults.{same_key, cycle_in, lesser_key, least_key, cycle_fault, limit_fault, parent_fault, faults_along};
 
 use crate::chain::own_file;
 use crate::faults::with_fault;

@@ -2,21 +2,21 @@
 ghost use Rattle.std.specs.Prelude.{◌≡◌, ◌++◌, ◌≤◌, [], None, IfOk, IfSome, OnOk, if◌then◌else◌};
 ghost use Rattle.ocsf_tree.specs.LeastFault.{least_from};
 ghost use Rattle.ocsf_merge.specs.Table.{table_of};
-ghost use Rattle.ocsf_item.specs.Names.{ext_of};
-ghost use Rattle.ocsf_item.specs.Chain.{speakers, layers};
-ghost use Rattle.ocsf_item.specs.Compiled.{is_class, last_given, written_in, written_category, category, class_number, activities, numbered, caption, uid};
-ghost use Rattle.ocsf_item.specs.ItemFaults.{activity_faults, category_fault};
+ghost use Rattle.ocsf_rules.specs.Names.{ext_of};
+ghost use Rattle.ocsf_rules.specs.Chain.{speakers, layers};
+ghost use Rattle.ocsf_rules.specs.Compiled.{is_class, last_given, written_in, written_category, category, class_number, activities, numbered, caption, uid};
+ghost use Rattle.ocsf_rules.specs.ItemFaults.{activity_faults, category_fault};
 ghost use Rattle.ocsf_item.specs.Ranges.{IsCategoryInRange, IsNumberedInRange};
-ghost use Rattle.ocsf_item.specs.Reads.{category_reads};
+ghost use Rattle.ocsf_rules.specs.Reads.{category_reads};
 
 use crate::categories::{category_named, class_number, ext_uid};
-use crate::category::{Category, Written};
-use crate::computed::{Numbered, numbered_by};
+use crate::computed::numbered_by;
 use crate::faults::{with_activities, with_category};
 use crate::names::ext_of;
 use crate::own::{Own, activities, caption_or_key, is_class};
 use ocsf_bundle::{Cell, Shows};
 use ocsf_merge::Spoken;
+use ocsf_rules::{Category, Numbered, Written};
 use ocsf_tree::{Fault, Key, Row};
 use std::alloc::{AllocError, Global};
 

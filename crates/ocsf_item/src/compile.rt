@@ -4,11 +4,11 @@ ghost use Rattle.ocsf_tree.specs.declared.key.Key.{Key};
 ghost use Rattle.std.specs.Option.{option_map};
 ghost use Rattle.ocsf_tree.specs.LeastFault.{least_fault};
 ghost use Rattle.ocsf_merge.specs.Table.{table_of};
-ghost use Rattle.ocsf_item.specs.Names.{ext_of};
-ghost use Rattle.ocsf_item.specs.Chain.{chain, parent, speakers, layers};
-ghost use Rattle.ocsf_item.specs.Compiled.{profile_keys, item};
-ghost use Rattle.ocsf_item.specs.ItemFaults.{chain_faults, layers_faults, item_fault};
-ghost use Rattle.ocsf_item.specs.Reads.{ext_reads, key_reads, speaker_reads, category_reads, attribute_reads, reads};
+ghost use Rattle.ocsf_rules.specs.Names.{ext_of};
+ghost use Rattle.ocsf_rules.specs.Chain.{chain, parent, speakers, layers};
+ghost use Rattle.ocsf_rules.specs.Compiled.{profile_keys, item};
+ghost use Rattle.ocsf_rules.specs.ItemFaults.{chain_faults, layers_faults, item_fault};
+ghost use Rattle.ocsf_rules.specs.Reads.{ext_reads, key_reads, speaker_reads, category_reads, attribute_reads, reads};
 ghost use Rattle.ocsf_item.specs.Speakers.{speaker_of, AreSpeakersOrdered};
 ghost use Rattle.ocsf_item.specs.Built.{IsLeastFault};
 

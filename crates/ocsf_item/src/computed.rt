@@ -3,27 +3,15 @@ ghost use Rattle.std.specs.Prelude.{◌≡◌, ◌≤◌, ◌∷◌, [], ◌-◌
 ghost use Rattle.std.specs.Option.{option_map, option_and_then};
 ghost use Rattle.std.specs.Str.Parse.{digits_value};
 ghost use Rattle.std.specs.Char.{is_ascii_digit};
-ghost use Rattle.ocsf_item.specs.Compiled.{bare_member, class_members, category_members, type_member, type_members, computed, computed_members};
-ghost use Rattle.ocsf_item.specs.ItemFaults.{is_small_decimal};
+ghost use Rattle.ocsf_rules.specs.Compiled.{bare_member, class_members, category_members, type_member, type_members, computed, computed_members};
+ghost use Rattle.ocsf_rules.specs.ItemFaults.{is_small_decimal};
 ghost use Rattle.ocsf_item.specs.Ranges.{IsCategoryInRange, IsNumberedInRange, are_small};
 ghost use Rattle.ocsf_item.specs.Digits.{small_number, numbered_by};
 
-use crate::category::Category;
 use ocsf_kind::type_uid;
+use ocsf_rules::{Category, Numbered};
 use ocsf_tree::{EnumMember, Row, Text, TryClone, first_of_each};
 use std::alloc::{AllocError, Global};
-
-/// What the enumerations of a class are computed from.
-#[derive(Drop)]
-pub(crate) struct Numbered {
-    /// The number of the class.
-    pub number: u64,
-    /// The caption of the class, or its key where it has none.
-    pub caption: Text,
-    pub category: Category,
-    /// The members of the enumeration of `activity_id`.
-    pub activities: Row<EnumMember>,
-}
 
 /// The value of the digit, if it is one.
 fn digit(byte: u8) -> Option<u32>

@@ -2,32 +2,14 @@
 ghost use Rattle.std.specs.Prelude.{◌≡◌, [], ◌∷◌, ◌++◌, List, IfOk, slice_get};
 ghost use Rattle.std.specs.Option.{option_map, option_or};
 ghost use Rattle.ocsf_bundle.specs.Looks.{DictOf};
-ghost use Rattle.ocsf_item.specs.Attribute.{dict_said, type_said_in};
+ghost use Rattle.ocsf_rules.specs.Attribute.{dict_said, type_said_in};
 ghost use Rattle.ocsf_item.specs.Dictionary.{dict_of, dict_cell, dict_over};
 
 use ocsf_bundle::{Cell, Part, Shows};
 use ocsf_raw::DictEntry;
+use ocsf_rules::{DictSaid, TypeSaid};
 use ocsf_tree::{EnumMember, Row, Text, TryClone};
 use std::alloc::{AllocError, Global};
-
-/// A type as it is written, and the extension whose layer or dictionary gives it, empty for core.
-#[derive(Drop)]
-pub(crate) struct TypeSaid {
-    pub name: Text,
-    pub from: Text,
-}
-
-/// What the dictionaries say of an attribute, each field as the last layer gives it that gives it.
-#[derive(Drop)]
-pub(crate) struct DictSaid {
-    pub caption: Option<Text>,
-    pub description: Option<Text>,
-    pub type_said: Option<TypeSaid>,
-    pub is_array: Option<bool>,
-    pub sibling: Option<Text>,
-    /// The members of all layers, those of the last layer first.
-    pub members: Row<EnumMember>,
-}
 
 /// An entry of a dictionary, and the extension of its file.
 #[derive(Clone, Copy, Drop)]

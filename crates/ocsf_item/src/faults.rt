@@ -3,14 +3,14 @@ ghost use Rattle.std.specs.Prelude.{◌≡◌, ◌∷◌, ◌++◌, [], List, If
 ghost use Rattle.ocsf_tree.specs.ByName.{IsByName};
 ghost use Rattle.ocsf_tree.specs.Key.{key_text};
 ghost use Rattle.ocsf_tree.specs.LeastFault.{least_from};
-ghost use Rattle.ocsf_item.specs.ItemFaults.{fault, leads_fault, missing_category, absent_fault, activity_fault, activities_faults, size_fault, type_text};
+ghost use Rattle.ocsf_rules.specs.ItemFaults.{fault, leads_fault, missing_category, absent_fault, activity_fault, activities_faults, size_fault, type_text};
 ghost use Rattle.ocsf_item.specs.Typed.{type_lent};
 ghost use Rattle.std.specs.Option.{option_map};
 
 use crate::attribute::TypeLent;
-use crate::category::{Category, Written};
 use crate::computed::small_number;
 use ocsf_merge::Spoken;
+use ocsf_rules::{Category, Written};
 use ocsf_schema::Target;
 use ocsf_tree::{Code, EnumMember, Fault, Key, Text, find_by_name, lesser_fault};
 use std::alloc::{AllocError, Global};

@@ -1,13 +1,13 @@
 // The fields of an item that its files give as a whole.
 ghost use Rattle.std.specs.Prelude.{◌≡◌, map, IfOk};
 ghost use Rattle.std.specs.Option.{option_or};
-ghost use Rattle.ocsf_item.specs.Compiled.{written_in};
+ghost use Rattle.ocsf_rules.specs.Compiled.{written_in};
 ghost use Rattle.ocsf_item.specs.Given.{given_by, given_over};
 ghost use Rattle.ocsf_item.specs.Speakers.{speaker_of};
 
-use crate::category::Written;
 use crate::dictionary::given_or;
 use crate::speakers::Speaker;
+use ocsf_rules::Written;
 use ocsf_tree::{Row, Text};
 use std::alloc::AllocError;
 

@@ -1,22 +1,23 @@
 // What the layers say of each attribute, joined with the dictionary.
 ghost use Rattle.std.specs.Prelude.{◌≡◌, ◌∷◌, ◌++◌, [], IfOk, IfSome, OnOk, map, flat_map};
 ghost use Rattle.ocsf_bundle.specs.Looks.{is_there};
-ghost use Rattle.ocsf_item.specs.Names.{ext_of};
-ghost use Rattle.ocsf_item.specs.Attribute.{dict_said, target_of, attr_of};
-ghost use Rattle.ocsf_item.specs.Compiled.{computed};
+ghost use Rattle.ocsf_rules.specs.Names.{ext_of};
+ghost use Rattle.ocsf_rules.specs.Attribute.{dict_said, target_of, attr_of};
+ghost use Rattle.ocsf_rules.specs.Compiled.{computed};
 ghost use Rattle.ocsf_item.specs.Dictionary.{dict_cell};
-ghost use Rattle.ocsf_item.specs.ItemFaults.{attribute_fault};
+ghost use Rattle.ocsf_rules.specs.ItemFaults.{attribute_fault};
 ghost use Rattle.ocsf_item.specs.Ranges.{IsNumberedInRange};
-ghost use Rattle.ocsf_item.specs.Reads.{dict_reads, attribute_reads};
+ghost use Rattle.ocsf_rules.specs.Reads.{dict_reads, attribute_reads};
 ghost use Rattle.ocsf_item.specs.Joined.{Joins};
 
 use crate::attribute::{attr_from, profile_of, target_named, type_of};
-use crate::computed::{Numbered, computed};
-use crate::dictionary::{DictSaid, dict_said};
+use crate::computed::computed;
+use crate::dictionary::dict_said;
 use crate::faults::with_attribute;
 use crate::names::is_shown;
 use ocsf_bundle::{Cell, Shows};
 use ocsf_merge::Spoken;
+use ocsf_rules::{DictSaid, Numbered};
 use ocsf_schema::{Attr, Target};
 use ocsf_tree::{Fault, Key, Row, Text};
 use std::alloc::{AllocError, Global};

@@ -1,6 +1,6 @@
 // In order, each once.
 ghost use Rattle.std.specs.Prelude.{◌≡◌, IfOk};
-ghost use Rattle.ocsf_item.specs.InOrder.{in_order};
+ghost use Rattle.ocsf_rules.specs.InOrder.{in_order};
 
 use ocsf_tree::Row;
 use std::alloc::{AllocError, Global};

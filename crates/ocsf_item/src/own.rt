@@ -2,8 +2,8 @@
 ghost use Rattle.std.specs.Prelude.{◌≡◌, ◌≤◌, [], IfOk, IfSome, None, false, map, unwrap_or, is_none, codes, if◌then◌else◌};
 ghost use Rattle.std.specs.Option.{option_map_or, option_and_then, option_copied};
 ghost use Rattle.ocsf_tree.specs.ByName.{IsByName, at_name};
-ghost use Rattle.ocsf_item.specs.Chain.{own_file, speakers_of};
-ghost use Rattle.ocsf_item.specs.Compiled.{caption, description, caption_or_key, uid, is_hidden, is_class, starts_low, enumeration};
+ghost use Rattle.ocsf_rules.specs.Chain.{own_file, speakers_of};
+ghost use Rattle.ocsf_rules.specs.Compiled.{caption, description, caption_or_key, uid, is_hidden, is_class, starts_low, enumeration};
 ghost use Rattle.ocsf_item.specs.Speakers.{speaker_of};
 
 use crate::attribute::members_of;

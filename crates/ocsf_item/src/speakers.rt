@@ -2,7 +2,7 @@
 ghost use Rattle.std.specs.Prelude.{◌≡◌, [], OnOk, IfOk, IfSome, slice_get, flat_map, map};
 ghost use Rattle.std.specs.Option.{option_map, option_to_list};
 ghost use Rattle.ocsf_raw.specs.Ordered.{AreEntriesOrdered};
-ghost use Rattle.ocsf_item.specs.Chain.{own_file, own_speaker, patch_speaker, speakers_of};
+ghost use Rattle.ocsf_rules.specs.Chain.{own_file, own_speaker, patch_speaker, speakers_of};
 ghost use Rattle.ocsf_item.specs.Speakers.{patch_of, speaker_of, patches_cell, Speaks, AreSpeakersOrdered};
 
 use crate::chain::own_file;

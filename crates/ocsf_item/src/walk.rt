@@ -3,10 +3,10 @@ ghost use Rattle.std.specs.Prelude.{◌≡◌, [], ◌∷◌, ◌++◌, OnOk, If
 ghost use Rattle.std.specs.Option.{option_to_list};
 ghost use Rattle.ocsf_raw.specs.Ordered.{AreEntriesOrdered};
 ghost use Rattle.ocsf_tree.specs.Key.{key_text};
-ghost use Rattle.ocsf_item.specs.Names.{found, tried, profile_cells, include_cells};
-ghost use Rattle.ocsf_item.specs.Chain.{plain_layer, profile_layer, included_layer, layer_at, include_layer, listed_layer, layers_of};
-ghost use Rattle.ocsf_item.specs.ItemFaults.{entry_fault, layer_faults, mark_fault, unknown_profile, unknown_include, include_faults, listed_faults, speaker_faults, fault};
-ghost use Rattle.ocsf_item.specs.Reads.{mark_reads, entry_reads, layer_reads, include_reads, listed_reads, speaker_reads};
+ghost use Rattle.ocsf_rules.specs.Names.{found, tried, profile_cells, include_cells};
+ghost use Rattle.ocsf_rules.specs.Chain.{plain_layer, profile_layer, included_layer, layer_at, include_layer, listed_layer, layers_of};
+ghost use Rattle.ocsf_rules.specs.ItemFaults.{entry_fault, layer_faults, mark_fault, unknown_profile, unknown_include, include_faults, listed_faults, speaker_faults, fault};
+ghost use Rattle.ocsf_rules.specs.Reads.{mark_reads, entry_reads, layer_reads, include_reads, listed_reads, speaker_reads};
 ghost use Rattle.ocsf_item.specs.Speakers.{speaker_of, AreSpeakersOrdered};
 ghost use Rattle.ocsf_item.specs.Walk.{Hears, profile_cell, include_cell, layers_at};
 

@@ -15,3 +15,4 @@ pub mod Search
 pub mod TextsApart
 pub mod Valid
 pub mod Views
+pub mod WrittenOut

@@ -13,3 +13,4 @@ pub mod Lookup
 pub mod Place
 pub mod Reading
 pub mod Valid
+pub mod Among

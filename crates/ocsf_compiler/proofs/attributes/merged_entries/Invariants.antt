@@ -1,5 +1,5 @@
 use Rattle.std.proofs.Common.{◌≡◌, map, take}
-use Rattle.ocsf_item.specs.MergedDictionary.{merged_entry}
+use Rattle.ocsf_rules.specs.MergedDictionary.{merged_entry}
 use Rattle.ocsf_compiler.proofs.attributes.merged_entries.Given as goal
 
 abbrev pub invariant-loop-name : goal.invariant-loop-name

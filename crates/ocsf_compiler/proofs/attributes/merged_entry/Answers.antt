@@ -6,8 +6,8 @@ use Rattle.ocsf_raw.specs.declared.dictionary.DictEntry.{DictEntry}
 use Rattle.ocsf_raw.specs.Ordered.{IsByKey}
 use Rattle.ocsf_bundle.specs.declared.cells.Cell.TheVariants.{Dict}
 use Rattle.ocsf_bundle.specs.Looks.{look, show_entry}
-use Rattle.ocsf_item.specs.Attribute.{dict_said}
-use Rattle.ocsf_item.specs.MergedDictionary.{entry_said}
+use Rattle.ocsf_rules.specs.Attribute.{dict_said}
+use Rattle.ocsf_rules.specs.MergedDictionary.{entry_said}
 use Rattle.ocsf_compiler.specs.Layers.{as_entry, entry_over}
 use Rattle.ocsf_compiler.proofs.Layered.{entry-more, entries_taken, said_by_key}
 use Rattle.ocsf_compiler.proofs.attributes.merged_entry.Goals as goal

@@ -1,7 +1,7 @@
 use Rattle.std.proofs.Common.{◌≡◌, take}
 use Rattle.ocsf_bundle.specs.declared.cells.Cell.TheVariants.{Dict}
-use Rattle.ocsf_item.specs.Attribute.{dict_said}
-use Rattle.ocsf_item.specs.MergedDictionary.{entry_said}
+use Rattle.ocsf_rules.specs.Attribute.{dict_said}
+use Rattle.ocsf_rules.specs.MergedDictionary.{entry_said}
 use Rattle.ocsf_compiler.proofs.attributes.merged_entry.Given as goal
 
 abbrev pub invariant-loop-k : goal.invariant-loop-k

@@ -3,9 +3,9 @@ use Rattle.ocsf_schema.specs.Lookups.{IsByKey}
 use Rattle.ocsf_bundle.specs.FilesLook.{looks}
 use Rattle.ocsf_bundle.specs.Listing.{listing}
 use Rattle.ocsf_bundle.specs.BundleFaults.{own_fault}
-use Rattle.ocsf_item.specs.Compilation.{compilation}
-use Rattle.ocsf_item.specs.PrintedSchema.{items}
-use Rattle.ocsf_item.specs.Verdict.{bundle_fault}
+use Rattle.ocsf_rules.specs.Compilation.{compilation}
+use Rattle.ocsf_rules.specs.PrintedSchema.{items}
+use Rattle.ocsf_rules.specs.Verdict.{bundle_fault}
 use Rattle.ocsf_compiler.specs.Building.{IsLeast}
 use Rattle.ocsf_compiler.proofs.BundleFaults.{of_files, of_schema, items_least, least_of_items, by_key, whole, of_compilation, carried, wanting}
 use Rattle.ocsf_compiler.proofs.compiling.schema_of.Goals as goal

@@ -5,7 +5,7 @@ use Rattle.ocsf_raw.proofs.FilterMaps.{filter_map-kept, filter_map-passed}
 use Rattle.ocsf_bundle.specs.FilesLook.{looks}
 use Rattle.ocsf_bundle.specs.OwnFaults.{lesser_of}
 use Rattle.ocsf_bundle.proofs.Noted.{noted}
-use Rattle.ocsf_item.specs.ItemFaults.{item_fault}
+use Rattle.ocsf_rules.specs.ItemFaults.{item_fault}
 use Rattle.ocsf_compiler.specs.Building.{sound_item}
 use Rattle.ocsf_compiler.proofs.items.found_items.Goals.{in-Ok+in_ok-push-in-Ok, in-Err}
 use Rattle.ocsf_compiler.proofs.items.found_items.Goals as goal

@@ -3,7 +3,7 @@ use Rattle.std.specs.List.{filter_map}
 use Rattle.ocsf_tree.specs.LeastFault.{least_fault}
 use Rattle.ocsf_bundle.specs.FilesLook.{looks}
 use Rattle.ocsf_bundle.proofs.Noted.{left_of}
-use Rattle.ocsf_item.specs.ItemFaults.{item_fault}
+use Rattle.ocsf_rules.specs.ItemFaults.{item_fault}
 use Rattle.ocsf_compiler.specs.Building.{sound_item}
 use Rattle.ocsf_compiler.proofs.items.found_items.Given as goal
 

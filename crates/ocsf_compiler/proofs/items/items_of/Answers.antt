@@ -3,7 +3,7 @@ use Rattle.std.specs.List.{filter_map}
 use Rattle.ocsf_tree.specs.LeastFault.{least_fault}
 use Rattle.ocsf_bundle.specs.FilesLook.{looks}
 use Rattle.ocsf_bundle.specs.Listing.{listing}
-use Rattle.ocsf_item.specs.ItemFaults.{item_fault}
+use Rattle.ocsf_rules.specs.ItemFaults.{item_fault}
 use Rattle.ocsf_compiler.proofs.SoundItems.{sound_items}
 use Rattle.ocsf_compiler.proofs.items.items_of.Goals as goal
 

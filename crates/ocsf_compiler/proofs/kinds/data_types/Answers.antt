@@ -2,7 +2,7 @@ use Rattle.std.proofs.Common.{◌≡◌, ℕ, List, ◌++◌, IfOk, codes, sym, 
 use Rattle.ocsf_tree.specs.ByName.{put_by_name}
 use Rattle.ocsf_tree.proofs.FirstOfEach.{first_of_each-by_name}
 use Rattle.ocsf_bundle.specs.Listing.{in_byte_order}
-use Rattle.ocsf_item.specs.MergedDictionary.{base_types}
+use Rattle.ocsf_rules.specs.MergedDictionary.{base_types}
 use Rattle.ocsf_compiler.proofs.kinds.data_types.Goals as goal
 
 abbrev put : List ℕ → List (List ℕ) → List (List ℕ)

@@ -2,8 +2,8 @@ use Rattle.std.proofs.Common.{◌≡◌, ℕ, List, IfOk, sym, subst, rules}
 use Rattle.ocsf_tree.specs.ByName.{IsByName}
 use Rattle.ocsf_bundle.specs.FilesLook.{looks}
 use Rattle.ocsf_bundle.specs.Listing.{listing}
-use Rattle.ocsf_item.specs.Compilation.{compilation}
-use Rattle.ocsf_item.specs.PrintedSchema.{schema_parts}
+use Rattle.ocsf_rules.specs.Compilation.{compilation}
+use Rattle.ocsf_rules.specs.PrintedSchema.{schema_parts}
 use Rattle.ocsf_compiler.specs.declared.sections.Section.TheVariants as section
 use Rattle.ocsf_compiler.specs.Sections.{section_tree}
 use Rattle.ocsf_compiler.proofs.Listed.{categories_by_name}

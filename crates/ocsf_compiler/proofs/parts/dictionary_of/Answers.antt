@@ -6,9 +6,9 @@ use Rattle.ocsf_raw.specs.declared.dictionary.DictEntry.{DictEntry}
 use Rattle.ocsf_raw.specs.Ordered.{IsByKey}
 use Rattle.ocsf_bundle.specs.FilesLook.{looks}
 use Rattle.ocsf_bundle.specs.Listing.{listing}
-use Rattle.ocsf_item.specs.MergedDictionary.{merged_entry}
-use Rattle.ocsf_item.specs.Compilation.{compilation}
-use Rattle.ocsf_item.specs.PrintedSchema.{schema_parts, member, entry_tree}
+use Rattle.ocsf_rules.specs.MergedDictionary.{merged_entry}
+use Rattle.ocsf_rules.specs.Compilation.{compilation}
+use Rattle.ocsf_rules.specs.PrintedSchema.{schema_parts, member, entry_tree}
 use Rattle.ocsf_compiler.proofs.Listed.{attributes_by_name, entries_by_name, entries_by_key}
 use Rattle.ocsf_compiler.proofs.parts.dictionary_of.Goals as goal
 

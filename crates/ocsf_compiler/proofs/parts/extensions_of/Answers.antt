@@ -1,7 +1,7 @@
 use Rattle.std.proofs.Common.{◌≡◌, ℕ, List, IfOk, subst}
 use Rattle.ocsf_bundle.specs.FilesLook.{looks}
-use Rattle.ocsf_item.specs.Compilation.{compilation}
-use Rattle.ocsf_item.specs.PrintedSchema.{schema_parts}
+use Rattle.ocsf_rules.specs.Compilation.{compilation}
+use Rattle.ocsf_rules.specs.PrintedSchema.{schema_parts}
 use Rattle.ocsf_compiler.specs.declared.sections.Section.TheVariants as section
 use Rattle.ocsf_compiler.specs.Sections.{section_tree}
 use Rattle.ocsf_compiler.proofs.parts.extensions_of.Goals as goal

@@ -6,10 +6,10 @@ use Rattle.ocsf_raw.specs.declared.dictionary.TypeEntry.{TypeEntry}
 use Rattle.ocsf_schema.specs.declared.records.Kind.{Kind}
 use Rattle.ocsf_kind.specs.Kinds.{kind_of}
 use Rattle.ocsf_bundle.specs.Listing.{in_byte_order}
-use Rattle.ocsf_item.specs.MergedDictionary.{base_types}
-use Rattle.ocsf_item.specs.Compilation.{compilation}
-use Rattle.ocsf_item.specs.PrintedSchema.{schema_parts}
-use Rattle.ocsf_item.specs.Verdict.{types_of}
+use Rattle.ocsf_rules.specs.MergedDictionary.{base_types}
+use Rattle.ocsf_rules.specs.Compilation.{compilation}
+use Rattle.ocsf_rules.specs.PrintedSchema.{schema_parts}
+use Rattle.ocsf_rules.specs.Verdict.{types_of}
 use Rattle.ocsf_compiler.proofs.Listed.{types_by_name, in_order, kinds_by_name, carried}
 use Rattle.ocsf_compiler.proofs.parts.kinds_of.Goals as goal
 

@@ -1,8 +1,8 @@
 use Rattle.std.proofs.Common.{List, map, ap, ◌∙◌}
 use Rattle.ocsf_tree.specs.declared.tree.Tree.TheVariants as tree
 use Rattle.ocsf_raw.specs.declared.dictionary.TypeEntry.{TypeEntry}
-use Rattle.ocsf_item.specs.Compilation.{compilation}
-use Rattle.ocsf_item.specs.PrintedSchema.{schema_parts, member, type_tree}
+use Rattle.ocsf_rules.specs.Compilation.{compilation}
+use Rattle.ocsf_rules.specs.PrintedSchema.{schema_parts, member, type_tree}
 use Rattle.ocsf_compiler.proofs.parts.tables_of.Goals as goal
 
 pub returns-clause-types : goal.returns-clause-types

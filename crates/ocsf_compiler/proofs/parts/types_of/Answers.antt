@@ -3,7 +3,7 @@ use Rattle.ocsf_tree.specs.ByName.{IsByName}
 use Rattle.ocsf_raw.specs.declared.dictionary.TypeEntry.{TypeEntry}
 use Rattle.ocsf_bundle.specs.FilesLook.{looks}
 use Rattle.ocsf_bundle.specs.Listing.{listing}
-use Rattle.ocsf_item.specs.MergedDictionary.{merged_type}
+use Rattle.ocsf_rules.specs.MergedDictionary.{merged_type}
 use Rattle.ocsf_compiler.proofs.Listed.{types_by_name, merged_types_by_name, carried}
 use Rattle.ocsf_compiler.proofs.parts.types_of.Goals as goal
 

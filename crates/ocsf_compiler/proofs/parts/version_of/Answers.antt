@@ -1,6 +1,6 @@
 use Rattle.std.proofs.Common.{◌≡◌, ℕ, List, IfOk, subst}
-use Rattle.ocsf_item.specs.Compilation.{compilation}
-use Rattle.ocsf_item.specs.PrintedSchema.{schema_parts}
+use Rattle.ocsf_rules.specs.Compilation.{compilation}
+use Rattle.ocsf_rules.specs.PrintedSchema.{schema_parts}
 use Rattle.ocsf_compiler.proofs.parts.version_of.Goals as goal
 
 pub returns : goal.returns

@@ -1,7 +1,7 @@
 use Rattle.std.proofs.Common.{inl, inr, rules}
 use Rattle.regex.specs.Patterns.{Refuses}
-use Rattle.ocsf_item.specs.Patterns.{IsGood}
-use Rattle.ocsf_item.proofs.ReadPatterns.{good_is_read, bad_is_not_good}
+use Rattle.ocsf_rules.specs.Patterns.{IsGood}
+use Rattle.ocsf_rules.proofs.ReadPatterns.{good_is_read, bad_is_not_good}
 use Rattle.ocsf_compiler.proofs.DeepPatterns.{deep_is_not_good}
 use Rattle.ocsf_compiler.proofs.patterns.admitted.Goals as goal
 

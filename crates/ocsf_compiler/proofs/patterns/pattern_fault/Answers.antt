@@ -2,7 +2,7 @@ use Rattle.std.proofs.Common.{◌+◌, ◌∷◌, ◌++◌, take, drop, sym, ap,
 use Rattle.std.specs.Prelude.{All}
 use Rattle.std.proofs.lemmas.List.{take_all, take-append-drop, at_drop_more}
 use Rattle.std.proofs.lemmas.List.Elements.{All-more}
-use Rattle.ocsf_item.specs.Verdict.{HasReadPattern}
+use Rattle.ocsf_rules.specs.Verdict.{HasReadPattern}
 use Rattle.ocsf_compiler.proofs.patterns.pattern_fault.Goals as goal
 
 pub loop-entry-preserved : goal.loop-entry-preserved

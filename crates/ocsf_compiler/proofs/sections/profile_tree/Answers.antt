@@ -3,7 +3,7 @@ use Rattle.ocsf_tree.specs.declared.tree.Tree.TheVariants as tree
 use Rattle.ocsf_tree.specs.Valid.{IsValid}
 use Rattle.ocsf_raw.specs.declared.attribute.RawAttr.{RawAttr}
 use Rattle.ocsf_schema.specs.Print.{shown, words}
-use Rattle.ocsf_item.specs.PrintedSchema.{texts_tree}
+use Rattle.ocsf_rules.specs.PrintedSchema.{texts_tree}
 use Rattle.ocsf_compiler.proofs.Printed.{three_joined, profile_valid}
 use Rattle.ocsf_compiler.proofs.sections.profile_tree.Goals as goal
 

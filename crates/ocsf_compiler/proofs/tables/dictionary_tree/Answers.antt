@@ -3,7 +3,7 @@ use Rattle.std.proofs.lemmas.List.{take_all}
 use Rattle.ocsf_tree.specs.ByName.{IsByName}
 use Rattle.ocsf_tree.specs.declared.tree.Member.{Member}
 use Rattle.ocsf_raw.specs.declared.dictionary.DictEntry.{DictEntry}
-use Rattle.ocsf_item.specs.PrintedSchema.{member, entry_tree}
+use Rattle.ocsf_rules.specs.PrintedSchema.{member, entry_tree}
 use Rattle.ocsf_compiler.proofs.ByNames.{IsByName-map, members_valid}
 use Rattle.ocsf_compiler.proofs.tables.dictionary_tree.Goals as goal
 

@@ -1,7 +1,7 @@
 use Rattle.std.proofs.Common.{◌≡◌, map, take}
 use Rattle.std.specs.Prelude.{All}
 use Rattle.ocsf_tree.specs.Valid.{IsValid}
-use Rattle.ocsf_item.specs.PrintedSchema.{member, entry_tree}
+use Rattle.ocsf_rules.specs.PrintedSchema.{member, entry_tree}
 use Rattle.ocsf_compiler.proofs.tables.dictionary_tree.Given as goal
 
 abbrev pub invariant-loop-entry : goal.invariant-loop-entry

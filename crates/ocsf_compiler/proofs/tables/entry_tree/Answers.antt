@@ -1,7 +1,7 @@
 use Rattle.std.proofs.Common.{◌≡◌, sym, subst, rules}
 use Rattle.ocsf_tree.specs.declared.tree.Tree.TheVariants as tree
 use Rattle.ocsf_tree.specs.Valid.{IsValid}
-use Rattle.ocsf_item.specs.PrintedSchema.{entry_tree}
+use Rattle.ocsf_rules.specs.PrintedSchema.{entry_tree}
 use Rattle.ocsf_compiler.proofs.Printed.{entry_valid}
 use Rattle.ocsf_compiler.proofs.tables.entry_tree.Goals as goal
 

@@ -2,7 +2,7 @@ use Rattle.std.proofs.Common.{◌≡◌, ◌<◌, ◌^◌, IfSome, sym, subst, a
 use Rattle.std.proofs.lemmas.Grind.{common_steps}
 use Rattle.ocsf_tree.specs.declared.tree.Tree.TheVariants as tree
 use Rattle.ocsf_tree.specs.Valid.{IsValid}
-use Rattle.ocsf_item.specs.PrintedSchema.{type_tree}
+use Rattle.ocsf_rules.specs.PrintedSchema.{type_tree}
 use Rattle.ocsf_compiler.proofs.Printed.{type_valid}
 use Rattle.ocsf_compiler.proofs.tables.type_tree.Goals as goal
 

@@ -3,7 +3,7 @@ use Rattle.std.proofs.lemmas.List.{take_all}
 use Rattle.ocsf_tree.specs.ByName.{IsByName}
 use Rattle.ocsf_tree.specs.declared.tree.Member.{Member}
 use Rattle.ocsf_raw.specs.declared.dictionary.TypeEntry.{TypeEntry}
-use Rattle.ocsf_item.specs.PrintedSchema.{member, type_tree}
+use Rattle.ocsf_rules.specs.PrintedSchema.{member, type_tree}
 use Rattle.ocsf_compiler.proofs.ByNames.{IsByName-map, members_valid}
 use Rattle.ocsf_compiler.proofs.tables.types_tree.Goals as goal
 

@@ -6,7 +6,7 @@ use Rattle.ocsf_raw.specs.Ordered.{IsTypeValid}
 use Rattle.ocsf_bundle.specs.declared.cells.Cell.TheVariants as cell
 use Rattle.ocsf_bundle.specs.Shown.{Kind}
 use Rattle.ocsf_bundle.specs.Looks.{look}
-use Rattle.ocsf_item.specs.MergedDictionary.{merged_layers}
+use Rattle.ocsf_rules.specs.MergedDictionary.{merged_layers}
 use Rattle.ocsf_compiler.specs.Layers.{as_type, type_over}
 use Rattle.ocsf_compiler.proofs.Layered.{type-more, types_taken, over_valid}
 use Rattle.ocsf_compiler.proofs.types.merged_type.Goals as goal

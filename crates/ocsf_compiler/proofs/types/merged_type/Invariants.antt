@@ -1,7 +1,7 @@
 use Rattle.std.proofs.Common.{◌≡◌, take}
 use Rattle.ocsf_raw.specs.Ordered.{IsTypeValid}
 use Rattle.ocsf_bundle.specs.declared.cells.Cell.TheVariants as cell
-use Rattle.ocsf_item.specs.MergedDictionary.{merged_layers}
+use Rattle.ocsf_rules.specs.MergedDictionary.{merged_layers}
 use Rattle.ocsf_compiler.proofs.types.merged_type.Given as goal
 
 abbrev pub invariant-loop-k : goal.invariant-loop-k

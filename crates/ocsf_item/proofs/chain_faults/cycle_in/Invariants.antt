@@ -1,5 +1,5 @@
 use Rattle.std.proofs.Common.{◌≡◌, length}
-use Rattle.ocsf_item.specs.ItemFaults.{cycle_in}
+use Rattle.ocsf_rules.specs.ItemFaults.{cycle_in}
 use Rattle.ocsf_item.proofs.chain_faults.cycle_in.Given as goal
 
 abbrev pub invariant-loop-left : goal.invariant-loop-left

@@ -1,7 +1,7 @@
 use Rattle.std.proofs.Common.{◌≡◌, ◌+◌, drop}
 use Rattle.std.specs.Prelude.{not}
 use Rattle.std.specs.List.{list_any, prefix_len}
-use Rattle.ocsf_item.specs.ItemFaults.{same_key}
+use Rattle.ocsf_rules.specs.ItemFaults.{same_key}
 use Rattle.ocsf_item.proofs.chain_faults.cycle_len.Given as goal
 
 abbrev pub invariant-loop-at : goal.invariant-loop-at

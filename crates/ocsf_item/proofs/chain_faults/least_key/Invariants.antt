@@ -1,5 +1,5 @@
 use Rattle.std.proofs.Common.{◌≡◌, drop}
-use Rattle.ocsf_item.specs.ItemFaults.{least_key}
+use Rattle.ocsf_rules.specs.ItemFaults.{least_key}
 use Rattle.ocsf_item.proofs.chain_faults.least_key.Given as goal
 
 abbrev pub invariant-loop-key : goal.invariant-loop-key

@@ -3,9 +3,9 @@ use Rattle.std.specs.Prelude.{codes}
 use Rattle.std.specs.Option.{option_map_or, option_and_then}
 use Rattle.ocsf_tree.specs.ByName.{IsByName, at_name}
 use Rattle.ocsf_merge.proofs.TablesByName.{IsByName-table_of}
-use Rattle.ocsf_item.specs.Names.{ext_of}
-use Rattle.ocsf_item.specs.Chain.{layers}
-use Rattle.ocsf_item.specs.Compiled.{is_class, category_named, category, class_number, activities, enumeration, ext_uid}
+use Rattle.ocsf_rules.specs.Names.{ext_of}
+use Rattle.ocsf_rules.specs.Chain.{layers}
+use Rattle.ocsf_rules.specs.Compiled.{is_class, category_named, category, class_number, activities, enumeration, ext_uid}
 use Rattle.ocsf_item.proofs.ClassParts.{number_is, numbered_is}
 use Rattle.ocsf_item.proofs.class.class_parts.Goals as goal
 

@@ -1,6 +1,6 @@
 use Rattle.std.proofs.Common.{◌∙◌, sym, ap}
 use Rattle.ocsf_tree.specs.LeastFault.{least_fault}
-use Rattle.ocsf_item.specs.ItemFaults.{faults_along}
+use Rattle.ocsf_rules.specs.ItemFaults.{faults_along}
 use Rattle.ocsf_item.proofs.Leasts.{chain_first}
 use Rattle.ocsf_item.proofs.compile.sound_chain.Goals as goal
 

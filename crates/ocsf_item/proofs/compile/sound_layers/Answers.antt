@@ -2,8 +2,8 @@ use Rattle.std.proofs.Common.{◌≡◌, [], map, reverse, ◌∙◌, sym, ap}
 use Rattle.std.specs.Prelude.{flat_map}
 use Rattle.ocsf_tree.specs.LeastFault.{least_fault}
 use Rattle.ocsf_merge.specs.Table.{table_of}
-use Rattle.ocsf_item.specs.Chain.{speakers, speakers_of, layers_of}
-use Rattle.ocsf_item.specs.ItemFaults.{speaker_faults}
+use Rattle.ocsf_rules.specs.Chain.{speakers, speakers_of, layers_of}
+use Rattle.ocsf_rules.specs.ItemFaults.{speaker_faults}
 use Rattle.ocsf_item.specs.Speakers.{speaker_of}
 use Rattle.ocsf_item.proofs.Leasts.{layers_next}
 use Rattle.ocsf_item.proofs.compile.sound_layers.Goals as goal

@@ -1,5 +1,5 @@
 use Rattle.std.proofs.Common.{◌≡◌, drop, take, map, true}
-use Rattle.ocsf_item.specs.Compiled.{type_member}
+use Rattle.ocsf_rules.specs.Compiled.{type_member}
 use Rattle.ocsf_item.specs.Ranges.{are_small}
 use Rattle.ocsf_item.proofs.computed.type_members.Given as goal
 

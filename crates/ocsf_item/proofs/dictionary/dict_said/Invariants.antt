@@ -1,5 +1,5 @@
 use Rattle.std.proofs.Common.{◌≡◌, take}
-use Rattle.ocsf_item.specs.Attribute.{dict_said}
+use Rattle.ocsf_rules.specs.Attribute.{dict_said}
 use Rattle.ocsf_item.specs.Dictionary.{dict_cell}
 use Rattle.ocsf_item.proofs.dictionary.dict_said.Given as goal
 

@@ -1,7 +1,7 @@
 use Rattle.std.proofs.Common.{◌≡◌, drop}
 use Rattle.std.specs.Prelude.{flat_map}
 use Rattle.ocsf_tree.specs.LeastFault.{least_from}
-use Rattle.ocsf_item.specs.ItemFaults.{activity_fault}
+use Rattle.ocsf_rules.specs.ItemFaults.{activity_fault}
 use Rattle.ocsf_item.proofs.faults.with_activities.Given as goal
 
 abbrev pub invariant-loop-activity : goal.invariant-loop-activity

@@ -1,7 +1,7 @@
-use Rattle.ocsf_item.specs.Attribute.{attr_of}
-use Rattle.ocsf_item.specs.Compiled.{computed}
-use Rattle.ocsf_item.specs.ItemFaults.{attribute_fault}
-use Rattle.ocsf_item.specs.Reads.{attribute_reads}
+use Rattle.ocsf_rules.specs.Attribute.{attr_of}
+use Rattle.ocsf_rules.specs.Compiled.{computed}
+use Rattle.ocsf_rules.specs.ItemFaults.{attribute_fault}
+use Rattle.ocsf_rules.specs.Reads.{attribute_reads}
 use Rattle.ocsf_item.proofs.Joinings.{joins_more}
 use Rattle.ocsf_item.proofs.join.join_all.Goals as goal
 

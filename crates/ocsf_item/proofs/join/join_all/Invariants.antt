@@ -1,9 +1,9 @@
 use Rattle.std.proofs.Common.{take, map}
 use Rattle.std.specs.Prelude.{flat_map}
-use Rattle.ocsf_item.specs.Attribute.{attr_of}
-use Rattle.ocsf_item.specs.Compiled.{computed}
-use Rattle.ocsf_item.specs.ItemFaults.{attribute_fault}
-use Rattle.ocsf_item.specs.Reads.{attribute_reads}
+use Rattle.ocsf_rules.specs.Attribute.{attr_of}
+use Rattle.ocsf_rules.specs.Compiled.{computed}
+use Rattle.ocsf_rules.specs.ItemFaults.{attribute_fault}
+use Rattle.ocsf_rules.specs.Reads.{attribute_reads}
 use Rattle.ocsf_item.specs.Joined.{Joins}
 use Rattle.ocsf_item.proofs.join.join_all.Given as goal
 

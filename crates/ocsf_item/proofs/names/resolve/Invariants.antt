@@ -1,5 +1,5 @@
 use Rattle.std.proofs.Common.{◌≡◌, ◌++◌, drop}
-use Rattle.ocsf_item.specs.Names.{found, tried}
+use Rattle.ocsf_rules.specs.Names.{found, tried}
 use Rattle.ocsf_item.proofs.names.resolve.Given as goal
 
 abbrev pub invariant-loop-cell : goal.invariant-loop-cell

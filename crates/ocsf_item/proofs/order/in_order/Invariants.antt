@@ -1,5 +1,5 @@
 use Rattle.std.proofs.Common.{◌≡◌, vec_len}
-use Rattle.ocsf_item.specs.InOrder.{in_order, put_onto}
+use Rattle.ocsf_rules.specs.InOrder.{in_order, put_onto}
 use Rattle.ocsf_item.proofs.order.in_order.Given as goal
 
 abbrev pub invariant-loop-item : goal.invariant-loop-item

@@ -1,10 +1,10 @@
 use Rattle.std.proofs.Common.{◌≡◌, ◌++◌, [], map, unwrap_or, sym, ◌∙◌, ap, subst}
 use Rattle.ocsf_tree.specs.ByName.{IsByName}
 use Rattle.ocsf_merge.proofs.TablesByName.{IsByName-table_of}
-use Rattle.ocsf_item.specs.Names.{ext_of}
-use Rattle.ocsf_item.specs.Chain.{layers}
-use Rattle.ocsf_item.specs.Attribute.{attr_of}
-use Rattle.ocsf_item.specs.Compiled.{computed, last_given, at_least_one, just_one}
+use Rattle.ocsf_rules.specs.Names.{ext_of}
+use Rattle.ocsf_rules.specs.Chain.{layers}
+use Rattle.ocsf_rules.specs.Attribute.{attr_of}
+use Rattle.ocsf_rules.specs.Compiled.{computed, last_given, at_least_one, just_one}
 use Rattle.ocsf_item.proofs.Leasts.{own_least}
 use Rattle.ocsf_item.proofs.parts.item_parts.Goals as goal
 

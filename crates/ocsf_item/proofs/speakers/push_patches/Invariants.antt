@@ -1,5 +1,5 @@
 use Rattle.std.proofs.Common.{◌≡◌, take, map}
-use Rattle.ocsf_item.specs.Chain.{patch_speaker}
+use Rattle.ocsf_rules.specs.Chain.{patch_speaker}
 use Rattle.ocsf_item.specs.Speakers.{patches_cell, Speaks}
 use Rattle.ocsf_item.proofs.speakers.push_patches.Given as goal
 

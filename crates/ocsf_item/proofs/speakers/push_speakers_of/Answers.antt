@@ -1,5 +1,5 @@
 use Rattle.std.proofs.Common.{◌∙◌, sym, ap}
-use Rattle.ocsf_item.specs.Names.{has_slash}
+use Rattle.ocsf_rules.specs.Names.{has_slash}
 use Rattle.ocsf_item.proofs.Speeches.{speaks_patched}
 use Rattle.ocsf_item.proofs.speakers.push_speakers_of.Goals as goal
 

@@ -1,6 +1,6 @@
 use Rattle.std.proofs.Common.{take, []}
 use Rattle.std.specs.Prelude.{flat_map}
-use Rattle.ocsf_item.specs.Chain.{speakers_of}
+use Rattle.ocsf_rules.specs.Chain.{speakers_of}
 use Rattle.ocsf_item.specs.Speakers.{Speaks}
 use Rattle.ocsf_item.proofs.speakers.speakers_along.Given as goal
 

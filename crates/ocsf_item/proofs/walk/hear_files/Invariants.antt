@@ -1,8 +1,8 @@
 use Rattle.std.proofs.Common.{take, map}
 use Rattle.std.specs.Prelude.{flat_map}
-use Rattle.ocsf_item.specs.Chain.{layers_of}
-use Rattle.ocsf_item.specs.ItemFaults.{speaker_faults}
-use Rattle.ocsf_item.specs.Reads.{speaker_reads}
+use Rattle.ocsf_rules.specs.Chain.{layers_of}
+use Rattle.ocsf_rules.specs.ItemFaults.{speaker_faults}
+use Rattle.ocsf_rules.specs.Reads.{speaker_reads}
 use Rattle.ocsf_item.specs.Speakers.{speaker_of}
 use Rattle.ocsf_item.specs.Walk.{Hears}
 use Rattle.ocsf_item.proofs.walk.hear_files.Given as goal

@@ -1,6 +1,6 @@
-use Rattle.ocsf_item.specs.Chain.{include_layer}
-use Rattle.ocsf_item.specs.ItemFaults.{include_faults}
-use Rattle.ocsf_item.specs.Reads.{include_reads}
+use Rattle.ocsf_rules.specs.Chain.{include_layer}
+use Rattle.ocsf_rules.specs.ItemFaults.{include_faults}
+use Rattle.ocsf_rules.specs.Reads.{include_reads}
 use Rattle.ocsf_item.proofs.Hearings.{hears_more}
 use Rattle.ocsf_item.proofs.walk.hear_includes.Goals as goal
 

@@ -1,8 +1,8 @@
 use Rattle.std.proofs.Common.{take}
 use Rattle.std.specs.Prelude.{flat_map}
-use Rattle.ocsf_item.specs.Chain.{include_layer}
-use Rattle.ocsf_item.specs.ItemFaults.{include_faults}
-use Rattle.ocsf_item.specs.Reads.{include_reads}
+use Rattle.ocsf_rules.specs.Chain.{include_layer}
+use Rattle.ocsf_rules.specs.ItemFaults.{include_faults}
+use Rattle.ocsf_rules.specs.Reads.{include_reads}
 use Rattle.ocsf_item.specs.Walk.{Hears}
 use Rattle.ocsf_item.proofs.walk.hear_includes.Given as goal
 

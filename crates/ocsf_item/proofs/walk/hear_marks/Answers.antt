@@ -1,5 +1,5 @@
-use Rattle.ocsf_item.specs.ItemFaults.{entry_fault}
-use Rattle.ocsf_item.specs.Reads.{entry_reads}
+use Rattle.ocsf_rules.specs.ItemFaults.{entry_fault}
+use Rattle.ocsf_rules.specs.Reads.{entry_reads}
 use Rattle.ocsf_item.proofs.Hearings.{hears_more_cells}
 use Rattle.ocsf_item.proofs.walk.hear_marks.Goals as goal
 

@@ -1,7 +1,7 @@
 use Rattle.std.proofs.Common.{take, []}
 use Rattle.std.specs.Prelude.{flat_map}
-use Rattle.ocsf_item.specs.ItemFaults.{entry_fault}
-use Rattle.ocsf_item.specs.Reads.{entry_reads}
+use Rattle.ocsf_rules.specs.ItemFaults.{entry_fault}
+use Rattle.ocsf_rules.specs.Reads.{entry_reads}
 use Rattle.ocsf_item.specs.Walk.{Hears}
 use Rattle.ocsf_item.proofs.walk.hear_marks.Given as goal
 

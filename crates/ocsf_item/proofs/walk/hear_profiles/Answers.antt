@@ -1,6 +1,6 @@
-use Rattle.ocsf_item.specs.Chain.{listed_layer}
-use Rattle.ocsf_item.specs.ItemFaults.{listed_faults}
-use Rattle.ocsf_item.specs.Reads.{listed_reads}
+use Rattle.ocsf_rules.specs.Chain.{listed_layer}
+use Rattle.ocsf_rules.specs.ItemFaults.{listed_faults}
+use Rattle.ocsf_rules.specs.Reads.{listed_reads}
 use Rattle.ocsf_item.proofs.Hearings.{hears_more}
 use Rattle.ocsf_item.proofs.walk.hear_profiles.Goals as goal
 

@@ -1,8 +1,8 @@
 use Rattle.std.proofs.Common.{take}
 use Rattle.std.specs.Prelude.{flat_map}
-use Rattle.ocsf_item.specs.Chain.{listed_layer}
-use Rattle.ocsf_item.specs.ItemFaults.{listed_faults}
-use Rattle.ocsf_item.specs.Reads.{listed_reads}
+use Rattle.ocsf_rules.specs.Chain.{listed_layer}
+use Rattle.ocsf_rules.specs.ItemFaults.{listed_faults}
+use Rattle.ocsf_rules.specs.Reads.{listed_reads}
 use Rattle.ocsf_item.specs.Walk.{Hears}
 use Rattle.ocsf_item.proofs.walk.hear_profiles.Given as goal
 

@@ -1,0 +1,78 @@
+-- The class of an event, and what a schema has under a name.
+use Rattle.std.specs.Prelude.{ℕ, ℤ, pos, negsuc, ◌==◌, Bool, true, false, List, find, codes, Option, Some, None, if◌then◌else◌}
+use Rattle.std.specs.Option.{option_map_or, option_and_then}
+use Rattle.ocsf_tree.specs.declared.tree.Tree.{Tree, out-Tree}
+use Rattle.ocsf_tree.specs.declared.tree.Tree.TheOpen.{Tree-F}
+use Rattle.ocsf_tree.specs.declared.tree.Member.{Member}
+use Rattle.ocsf_tree.specs.declared.key.Side.TheVariants.{Object}
+use Rattle.ocsf_tree.specs.ByName.{at_name}
+use Rattle.ocsf_tree.specs.Key.{key_text}
+use Rattle.ocsf_tree.specs.Lookup.{member_in}
+use Rattle.ocsf_schema.specs.declared.records.Attr.{Attr}
+use Rattle.ocsf_schema.specs.declared.records.Item.{Item}
+use Rattle.ocsf_schema.specs.declared.records.Kind.{Kind}
+use Rattle.ocsf_schema.specs.declared.parts.SchemaParts.{SchemaParts}
+
+-- ---- what a value is
+
+abbrev pub object_in : Tree-F Tree Member → Option (List Member)
+object_in (Tree-F.Members members) = Some members
+object_in _ = None
+
+-- the members of an object
+abbrev pub as_object : Tree → Option (List Member)
+as_object value = object_in (out-Tree value)
+
+abbrev pub whole_in : Tree-F Tree Member → Option ℤ
+whole_in (Tree-F.Whole whole) = Some whole
+whole_in _ = None
+
+abbrev pub as_whole : Tree → Option ℤ
+as_whole value = whole_in (out-Tree value)
+
+abbrev pub is_null_in : Tree-F Tree Member → Bool
+is_null_in Tree-F.Null = true
+is_null_in _ = false
+
+abbrev pub is_null : Tree → Bool
+is_null value = is_null_in (out-Tree value)
+
+abbrev pub unless_null : Tree → Option Tree
+unless_null value = if is_null value then None else Some value
+
+-- the value of the member of that name; a member that is `null` is absent
+abbrev pub value_of : List ℕ → List Member → Option Tree
+value_of name members = option_and_then unless_null (member_in name members)
+
+abbrev pub whole_of : List ℕ → List Member → Option ℤ
+whole_of name members = option_and_then as_whole (value_of name members)
+
+-- ---- what a schema has
+
+abbrev pub item_named : SchemaParts → List ℕ → Option Item
+item_named schema name = at_name (λ item. key_text item.key) (key_text (record { side = Object; name = name })) schema.pieces
+
+abbrev pub kind_named : SchemaParts → List ℕ → Option Kind
+kind_named schema name = at_name (λ kind. kind.name) name schema.kinds
+
+abbrev pub attribute_named : Item → List ℕ → Option Attr
+attribute_named item name = at_name (λ attr. attr.name) name item.attrs
+
+abbrev pub is_number : ℤ → ℕ → Bool
+is_number (pos n) number = n == number
+is_number (negsuc n) number = false
+
+-- a hidden class has no number
+abbrev pub has_number : ℤ → Item → Bool
+has_number whole item = option_map_or (is_number whole) item.class_uid false
+
+abbrev pub class_numbered : SchemaParts → ℤ → Option Item
+class_numbered schema whole = find (has_number whole) schema.pieces
+
+-- the class of an object: that of its `class_uid`
+abbrev pub class_of : SchemaParts → List Member → Option Item
+class_of schema members = option_and_then (class_numbered schema) (whole_of (codes "class_uid") members)
+
+-- the class of an event
+abbrev pub class_of_event : SchemaParts → Tree → Option Item
+class_of_event schema event = option_and_then (class_of schema) (as_object event)

@@ -1,5 +1,0 @@
-use Rattle.ocsf_item.proofs.EmptyReports.{report_is_empty}
-use Rattle.ocsf_item.proofs.event_laws.a_report_is_empty_where_the_event_is_allowed.Goals as goal
-
-pub returns : goal.returns
-returns c = report_is_empty

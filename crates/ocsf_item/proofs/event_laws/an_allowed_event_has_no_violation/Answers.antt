@@ -1,5 +1,0 @@
-use Rattle.ocsf_item.proofs.AllowedEvents.{allowed_is_faultless}
-use Rattle.ocsf_item.proofs.event_laws.an_allowed_event_has_no_violation.Goals as goal
-
-pub returns : goal.returns
-returns c = allowed_is_faultless

@@ -1,9 +1,0 @@
-use Rattle.std.proofs.Common.{◌≡◌}
-use Rattle.ocsf_bundle.specs.Looks.{look}
-use Rattle.ocsf_item.specs.Reads.{reads}
-use Rattle.ocsf_item.proofs.Agreement.{all_by_recursion}
-use Rattle.ocsf_item.proofs.SameItem.{from_reads}
-use Rattle.ocsf_item.proofs.laws.same_looks_give_the_same_item.Goals as goal
-
-pub returns : goal.returns
-returns c b d k agree = from_reads b d k (all_by_recursion (λ x. look b x ≡ look d x) (reads b k) agree)

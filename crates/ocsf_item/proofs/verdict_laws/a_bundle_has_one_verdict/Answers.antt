@@ -1,5 +1,0 @@
-use Rattle.ocsf_item.proofs.OneVerdict.{one_verdict}
-use Rattle.ocsf_item.proofs.verdict_laws.a_bundle_has_one_verdict.Goals as goal
-
-pub returns : goal.returns
-returns c = one_verdict

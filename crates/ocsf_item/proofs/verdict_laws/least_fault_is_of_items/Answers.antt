@@ -1,5 +1,0 @@
-use Rattle.ocsf_item.proofs.LeastOfItems.{least_is_of_items}
-use Rattle.ocsf_item.proofs.verdict_laws.least_fault_is_of_items.Goals as goal
-
-pub returns : goal.returns
-returns c = least_is_of_items

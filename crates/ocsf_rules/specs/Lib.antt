@@ -1,0 +1,14 @@
+pub mod Names
+pub mod Chain
+pub mod Attribute
+pub mod Compiled
+pub mod ItemFaults
+pub mod InOrder
+pub mod Reads
+pub mod MergedDictionary
+pub mod PrintedSchema
+pub mod SchemaFaults
+pub mod Compilation
+pub mod Patterns
+pub mod Verdict
+pub mod Judgement
