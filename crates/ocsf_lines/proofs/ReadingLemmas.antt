@@ -102,16 +102,6 @@ IfEnded-always WriteFault P p = tt
 IfEnded-always Memory P p = tt
 IfEnded-always Limit P p = tt
 
-pub LinesRan-ended : {S : Type 0} (Step : StepOf S) (print : S → List ℕ) (start : S) (lo la wo wa : Option (List ℕ)) (end : LinesEnd) → LinesRan Step print start lo la wo wa end → IfEnded end (λ flawed. Exchange lo la wo wa (λ taken out. Output Step print start taken out flawed))
-LinesRan-ended Step print start lo la wo wa (Ended f) r = r
-LinesRan-ended Step print start lo la wo wa ReadFault r = tt
-LinesRan-ended Step print start lo la wo wa WriteFault r = tt
-LinesRan-ended Step print start lo la wo wa Memory r = tt
-LinesRan-ended Step print start lo la wo wa Limit r = tt
-
-pub LinesRan-at : {S : Type 0} (Step : StepOf S) (print : S → List ℕ) (start : S) (lo la wo wa : Option (List ℕ)) (end at : LinesEnd) → LinesRan Step print start lo la wo wa end → end ≡ at → LinesRan Step print start lo la wo wa at
-LinesRan-at Step print start lo la wo wa end at r e = subst (λ (x : LinesEnd). LinesRan Step print start lo la wo wa x) e r
-
 pub limit_due : (end : LinesEnd) (ro rn wo wn : ℕ) (ended : Bool) → IfEnded end (λ flawed. ended ≡ true) → ReadsCause ro rn end → WritesCause wo wn end → ¬ Rose ro rn → ¬ Rose wo wn → ended ≡ false → IsLimitOrMemory end
 limit_due (Ended f) ro rn wo wn ended t reads writes no_read no_write e = false≢true (sym e ∙ t)
 limit_due ReadFault ro rn wo wn ended t reads writes no_read no_write e = absurd (no_read (reads.failed refl))

@@ -1,9 +1,7 @@
 // A source is read to its end in pieces, and its lines are answered as they come.
-ghost use Rattle.std.specs.Prelude.{◌≡◌, ◌≢◌, ◌<◌, ◌^◌, length, true, false, IfSome};
+ghost use Rattle.std.specs.Prelude.{◌≡◌, ◌<◌, ◌^◌, length, true, false, IfSome};
 ghost use Rattle.std.specs.Io.KnownBytes.{IsAtEnd};
 ghost use Rattle.ocsf_edge.specs.Faults.{Rose};
-ghost use Rattle.ocsf_lines.specs.Run.{Output, OutputFront, Replies};
-ghost use Rattle.ocsf_lines.specs.Exchange.{Exchange};
 ghost use Rattle.ocsf_lines.specs.Ends.{IfEnded, IsEndedOrMemory, IsLimitOrMemory, ReadsCause, WritesCause};
 ghost use Rattle.ocsf_lines.specs.Reading.{LinesRan};
 
@@ -26,39 +24,19 @@ pub fn run_lines<M: LineMachine, S: Source, K: Sink>(
     source: &mut S,
     sink: &mut K,
 ) -> LinesEnd
-    // At the end of the source the whole output over all of its bytes was written.
-    ensures ended { IfEnded result (λ flawed. Exchange
-        (S.left source.old) (S.left source.new) (K.written sink.old) (K.written sink.new)
-        (λ taken out. Output M.Step M.print (M.state machine.old) taken out flawed)) }
+    // What was written over the bytes taken: at the end of the source the whole output, at a read fault and at the
+    // limit just the replies to the lines that a LF ended, at a write fault and at want of memory a front of an output.
+    ensures ran { LinesRan M.Step M.print (M.state machine.old)
+        (S.left source.old) (S.left source.new) (K.written sink.old) (K.written sink.new) result }
+
+    // At its end the source has told so, and nothing of it is left; at the limit it hasn't.
     ensures has_ended { IfEnded result (λ flawed. S.has_ended source.new ≡ true) }
     ensures nothing_left { IfEnded result (λ flawed. IsAtEnd (S.left source.new)) }
-
-    // At a read fault and at the limit, just the replies to the lines that a LF ended.
-    ensures read_fault { result ≡ LinesEnd.ReadFault → Exchange
-        (S.left source.old) (S.left source.new) (K.written sink.old) (K.written sink.new)
-        (λ taken out. Replies M.Step (M.state machine.old) taken out) }
-    ensures limit { result ≡ LinesEnd.Limit → Exchange
-        (S.left source.old) (S.left source.new) (K.written sink.old) (K.written sink.new)
-        (λ taken out. Replies M.Step (M.state machine.old) taken out × (length taken ≡ 2 ^ 40)) }
     ensures open { result ≡ LinesEnd.Limit → S.has_ended source.new ≡ S.has_ended source.old }
 
-    // At a write fault, and where there was no memory, a front of an output.
-    ensures write_fault { result ≡ LinesEnd.WriteFault → Exchange
-        (S.left source.old) (S.left source.new) (K.written sink.old) (K.written sink.new)
-        (λ taken out. OutputFront M.Step M.print (M.state machine.old) taken out) }
-    ensures memory { result ≡ LinesEnd.Memory → Exchange
-        (S.left source.old) (S.left source.new) (K.written sink.old) (K.written sink.new)
-        (λ taken out. OutputFront M.Step M.print (M.state machine.old) taken out) }
-
     // A fault is the object's own, and at no other end has that object failed.
-    ensures read_cause { result ≡ LinesEnd.ReadFault
-        → Rose (S.read_faults source.old) (S.read_faults source.new) }
-    ensures reads { result ≢ LinesEnd.ReadFault
-        → S.read_faults source.new ≡ S.read_faults source.old }
-    ensures write_cause { result ≡ LinesEnd.WriteFault
-        → Rose (K.write_faults sink.old) (K.write_faults sink.new) }
-    ensures writes { result ≢ LinesEnd.WriteFault
-        → K.write_faults sink.new ≡ K.write_faults sink.old }
+    ensures reads { ReadsCause (S.read_faults source.old) (S.read_faults source.new) result }
+    ensures writes { WritesCause (K.write_faults sink.old) (K.write_faults sink.new) result }
 
     // Where nothing failed, the run stops before the end of the source at the limit alone.
     ensures limit_due { ¬ Rose (S.read_faults source.old) (S.read_faults source.new)

@@ -7,7 +7,6 @@ use Rattle.std.specs.FinMap.Entries.{below_all}
 use Rattle.std.proofs.lemmas.List.{map-append, take_more, take-append-drop}
 use Rattle.ocsf_edge.specs.declared.records.KeptFile.{KeptFile}
 use Rattle.ocsf_edge.specs.Folder.{body_at}
-use Rattle.ocsf_edge.specs.Sink.{AppendsPrefix}
 use Rattle.ocsf_tree.specs.declared.fault.Fault.{Fault}
 use Rattle.ocsf_raw.specs.declared.file_shape.RawError.{RawError}
 use Rattle.ocsf_raw.specs.declared.file_shape.RawError.TheVariants as raw
@@ -20,12 +19,12 @@ use Rattle.ocsf_bundle.specs.Listing.{in_byte_order}
 use Rattle.ocsf_bundle.proofs.Listed.{in_byte_order-push}
 use Rattle.ocsf_schema.specs.declared.parts.SchemaParts.{SchemaParts}
 use Rattle.ocsf_schema.specs.Schema.{schema_text}
-use Rattle.ocsf_item.specs.Compilation.{compilation, IsCompilation}
-use Rattle.ocsf_item.specs.Verdict.{IsVerdict}
+use Rattle.ocsf_rules.specs.Compilation.{compilation, IsCompilation}
+use Rattle.ocsf_rules.specs.Verdict.{IsVerdict}
 use Rattle.ocsf_tool.specs.declared.folder_error.FolderError.{FolderError}
 use Rattle.ocsf_tool.specs.declared.folder_error.FolderError.TheVariants.{Fault as Faulty, FolderFault, Memory}
 use Rattle.ocsf_tool.specs.Fronts.{front_long, front_whole}
-use Rattle.ocsf_tool.specs.Folders.{IsFile, IsFileOf, IsFirstFileFault, IsCompiled, CompileFront, Written, compile_text, max_file}
+use Rattle.ocsf_tool.specs.Folders.{IsFile, IsFileOf, IsFirstFileFault, IsCompiled, max_file}
 use Rattle.ocsf_tool.specs.FolderParts.{of_raw, if_formed, IsMade, IsGot, AreFilesOrFault, IsBundleOf}
 
 -- what two facts say of what is told
@@ -141,16 +140,4 @@ printed dir lying bundle schema of verdict is = record {
   listed = of.listed;
   listing = of.listing;
   compiled = inr (of.files, of.are_files, (subst (λ b. IsVerdict b None) of.all verdict, ap schema_text (is ∙ ap compilation of.all)));
-}
-
--- what is written of an output that breaks off
-pub front_written : (old new : Option (List ℕ)) (dir : List ℕ) (lying : List KeptFile) (made : Result (List ℕ) Fault) → IsCompiled dir lying made → AppendsPrefix old new (compile_text made) → Written old new (λ out. CompileFront dir lying out)
-front_written old new dir lying made is front = record {
-  out = take front.0 (compile_text made);
-  appends = front.1;
-  holds = record {
-    more = drop front.0 (compile_text made);
-    is_refused = is_err made;
-    output = record { made = made; compiled = is; written = take-append-drop front.0 (compile_text made); refused = refl };
-  };
 }

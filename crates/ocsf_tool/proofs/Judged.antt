@@ -7,8 +7,8 @@ use Rattle.ocsf_raw.specs.declared.file_shape.RawError.TheVariants as error
 use Rattle.ocsf_bundle.specs.declared.edit.Change.{Change}
 use Rattle.ocsf_bundle.specs.After.{IsAfter}
 use Rattle.ocsf_bundle.specs.Stored.{Stored}
-use Rattle.ocsf_item.specs.Judgement.{last_revision, no_revision_left, revision_fault}
-use Rattle.ocsf_item.specs.Verdict.{IsVerdict}
+use Rattle.ocsf_rules.specs.Judgement.{last_revision, no_revision_left, revision_fault}
+use Rattle.ocsf_rules.specs.Verdict.{IsVerdict}
 use Rattle.ocsf_tool.specs.Edits.{Edited, IsChangesOutcome}
 use Rattle.ocsf_tool.specs.Judging.{unless_refused, IsBundleOutcome}
 

@@ -1,5 +1,8 @@
 pub mod Judged
 pub mod Nothing
+pub mod Complete
+pub mod EditsRan
+pub mod FolderRan
 pub mod FormedPaths
 pub mod FolderReads
 pub mod OneFolder

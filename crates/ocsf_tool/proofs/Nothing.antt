@@ -1,11 +1,13 @@
 -- Where nothing was read and nothing written, a front of an output was written.
-use Rattle.std.proofs.Common.{ℕ, List, [], Option, false, refl}
+use Rattle.std.proofs.Common.{ℕ, List, [], Option, refl}
 use Rattle.ocsf_edge.proofs.Known.{Appends-none, Consumes-none}
-use Rattle.ocsf_lines.specs.Exchange.{Exchange}
-use Rattle.ocsf_tool.specs.Edits.{EditsFront, edits_print, no_edits}
+use Rattle.ocsf_tool.specs.declared.status.Status.TheVariants.{Done, Memory}
+use Rattle.ocsf_tool.specs.Commands.{Edits}
+use Rattle.ocsf_tool.specs.Edits.{edits_print, no_edits}
+use Rattle.ocsf_tool.specs.Outputs.{Told, Ran}
 
-pub nothing_written : (left written : Option (List ℕ)) → Exchange left left written written (λ taken out. EditsFront taken out)
-nothing_written left written =
+pub nothing_ran : (told : Told) (left written : Option (List ℕ)) → Ran Edits told Memory left left written written
+nothing_ran told left written =
     record {
       taken = [];
       out = [];
@@ -13,7 +15,7 @@ nothing_written left written =
       appends = Appends-none written;
       holds = record {
         more = edits_print no_edits;
-        flawed = false;
-        output = record { replies = []; last = no_edits; run = (refl, refl, refl); all = refl };
+        status = Done;
+        whole = record { replies = []; last = no_edits; run = (refl, refl, refl); all = refl };
       };
     }

@@ -26,8 +26,8 @@ use Rattle.ocsf_bundle.specs.declared.stored.StoredFile.{StoredFile}
 use Rattle.ocsf_bundle.specs.After.{stored_file}
 use Rattle.ocsf_bundle.specs.Listing.{in_byte_order}
 use Rattle.ocsf_bundle.specs.Stored.{Stored, stored_path}
-use Rattle.ocsf_item.specs.Verdict.{types_of, AreDecided}
-use Rattle.ocsf_item.proofs.OneVerdict.{one_verdict}
+use Rattle.ocsf_rules.specs.Verdict.{types_of, AreDecided}
+use Rattle.ocsf_rule_laws.proofs.OneVerdict.{one_verdict}
 use Rattle.ocsf_tool.specs.Folders.{IsShapedAs, IsReadAs, IsWritten, IsFile, IsFileOf, AreFilesAt, IsFirstFileFault, all_enabled, AreCompiledAs, ArePathsCompiled, max_file}
 use Rattle.ocsf_tool.specs.Laws.{AreFilesOf, HasOneSchema}
 use Rattle.ocsf_tool.proofs.OneOutcome.{none_or_some, inside_some}

@@ -15,9 +15,9 @@ use Rattle.ocsf_bundle.specs.Edits.{IsEdit}
 use Rattle.ocsf_bundle.specs.After.{IsAfter}
 use Rattle.ocsf_bundle.specs.Stored.{Stored}
 use Rattle.ocsf_bundle.proofs.OneAfter.{one_edit_or_fault, one_after}
-use Rattle.ocsf_item.specs.Judgement as item
-use Rattle.ocsf_item.specs.Verdict.{types_of, AreDecided}
-use Rattle.ocsf_item.proofs.OneVerdict.{one_verdict}
+use Rattle.ocsf_rules.specs.Judgement as item
+use Rattle.ocsf_rules.specs.Verdict.{types_of, AreDecided}
+use Rattle.ocsf_rule_laws.proofs.OneVerdict.{one_verdict}
 use Rattle.ocsf_tool.specs.Edits.{Edited, IsChangesOutcome, IsSaidOutcome, IsTreeOutcome, IsReadOutcome, IsLineOutcome, max_edit}
 use Rattle.ocsf_tool.specs.Laws.{LeadsTo, HasOneOutcome}
 

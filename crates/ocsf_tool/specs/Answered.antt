@@ -19,11 +19,11 @@ use Rattle.ocsf_bundle.specs.declared.edit.Change.{Change}
 use Rattle.ocsf_bundle.specs.Edits.{IsValidChange}
 use Rattle.ocsf_bundle.specs.After.{IsAfter}
 use Rattle.ocsf_bundle.specs.Stored.{Stored}
-use Rattle.ocsf_item.specs.Judgement.{revision_fault}
-use Rattle.ocsf_item.specs.Verdict.{IsVerdict}
-use Rattle.ocsf_compiler.proofs.SomeEdit.{some_edit}
-use Rattle.ocsf_compiler.proofs.SomeAfter.{some_after}
-use Rattle.ocsf_compiler.proofs.SomeVerdict.{some_verdict}
+use Rattle.ocsf_rules.specs.Judgement.{revision_fault}
+use Rattle.ocsf_rules.specs.Verdict.{IsVerdict}
+use Rattle.ocsf_rule_laws.proofs.SomeEdit.{some_edit}
+use Rattle.ocsf_rule_laws.proofs.SomeAfter.{some_after}
+use Rattle.ocsf_rule_laws.proofs.SomeVerdict.{some_verdict}
 use Rattle.ocsf_tool.specs.Fronts.{past, front_long, front_whole}
 use Rattle.ocsf_tool.specs.Edits.{Edited, EditStep, IsChangesOutcome, IsSaidOutcome, IsReadOutcome, IsLineOutcome, IsJudgement, max_edit, too_long, line_fault, reply_tree, after_line}
 

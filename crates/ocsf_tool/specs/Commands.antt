@@ -1,103 +1,95 @@
--- The commands that the words name, and how they may end.
-use Rattle.std.specs.Prelude.{ℕ, ◌==◌, ◌&&◌, not, Bool, false, List, [], ◌∷◌, codes, Option, Some, None, if◌then◌else◌, ⊤}
+-- The commands: what the words name, what a command calls, and how it may end.
+use Rattle.std.specs.Prelude.{◌≡◌, ◌≢◌, ℕ, ◌==◌, not, Bool, true, false, List, [], ◌∷◌, codes, Option, Some, None, if◌then◌else◌}
+use Rattle.std.specs.Option.{option_map_or}
 use Rattle.std.specs.Str.{bytes_eq}
+use Rattle.ocsf_edge.specs.Faults.{Rose}
 use Rattle.ocsf_tool.specs.declared.status.Status.{Status}
 use Rattle.ocsf_tool.specs.declared.status.Status.TheVariants.{Done, Flawed, Usage, InputRefused, ReadFault, WriteFault, Memory, KeeperFault, FolderFault, Limit, AcceptFault}
 
--- the words of `edits`
-abbrev pub edits_words : List (List ℕ)
-edits_words = codes "edits" ∷ []
+-- ---- what the words name
+
+pub data Command : Type 0 where
+  Edits : Command
+  Compile : List ℕ → Command
 
 -- a folder's name isn't empty and doesn't begin with `-`
 abbrev pub is_folder_name : List ℕ → Bool
 is_folder_name [] = false
 is_folder_name (b ∷ bs) = not (b == 45)
 
--- the folder of the words `compile DIR`
-abbrev pub folder_named : List (List ℕ) → Option (List ℕ)
-folder_named (command ∷ dir ∷ []) = if bytes_eq command (codes "compile") && is_folder_name dir then Some dir else None
-folder_named _ = None
+abbrev of_folder : (List ℕ → Command) → List ℕ → Option Command
+of_folder command dir = if is_folder_name dir then Some (command dir) else None
 
--- the source has ended, or there was no memory
-abbrev pub IsCompleteOrMemory : Status → Type 0
-IsCompleteOrMemory Done = ⊤
-IsCompleteOrMemory Flawed = ⊤
-IsCompleteOrMemory Memory = ⊤
-IsCompleteOrMemory Usage = ⊥
-IsCompleteOrMemory InputRefused = ⊥
-IsCompleteOrMemory ReadFault = ⊥
-IsCompleteOrMemory WriteFault = ⊥
-IsCompleteOrMemory KeeperFault = ⊥
-IsCompleteOrMemory FolderFault = ⊥
-IsCompleteOrMemory Limit = ⊥
-IsCompleteOrMemory AcceptFault = ⊥
+abbrev of_one_word : List ℕ → Option Command
+of_one_word word = if bytes_eq word (codes "edits") then Some Edits else None
 
--- the limit was met, or there was no memory
-abbrev pub IsLimitOrMemory : Status → Type 0
-IsLimitOrMemory Limit = ⊤
-IsLimitOrMemory Memory = ⊤
-IsLimitOrMemory Done = ⊥
-IsLimitOrMemory Flawed = ⊥
-IsLimitOrMemory Usage = ⊥
-IsLimitOrMemory InputRefused = ⊥
-IsLimitOrMemory ReadFault = ⊥
-IsLimitOrMemory WriteFault = ⊥
-IsLimitOrMemory KeeperFault = ⊥
-IsLimitOrMemory FolderFault = ⊥
-IsLimitOrMemory AcceptFault = ⊥
+abbrev of_two_words : List ℕ → List ℕ → Option Command
+of_two_words word dir = if bytes_eq word (codes "compile") then of_folder Compile dir else None
 
--- the ends of a command that reads lines and asks neither folder nor keeper
-abbrev pub IsEndOverLines : Status → Type 0
-IsEndOverLines Done = ⊤
-IsEndOverLines Flawed = ⊤
-IsEndOverLines ReadFault = ⊤
-IsEndOverLines WriteFault = ⊤
-IsEndOverLines Memory = ⊤
-IsEndOverLines Limit = ⊤
-IsEndOverLines Usage = ⊥
-IsEndOverLines InputRefused = ⊥
-IsEndOverLines KeeperFault = ⊥
-IsEndOverLines FolderFault = ⊥
-IsEndOverLines AcceptFault = ⊥
+-- `edits` and `compile DIR`, and no other words
+abbrev pub command_of : List (List ℕ) → Option Command
+command_of (word ∷ []) = of_one_word word
+command_of (word ∷ dir ∷ []) = of_two_words word dir
+command_of _ = None
 
--- the ends of a command that reads a folder alone
-abbrev pub IsEndOverFolder : Status → Type 0
-IsEndOverFolder Done = ⊤
-IsEndOverFolder InputRefused = ⊤
-IsEndOverFolder WriteFault = ⊤
-IsEndOverFolder Memory = ⊤
-IsEndOverFolder FolderFault = ⊤
-IsEndOverFolder Flawed = ⊥
-IsEndOverFolder Usage = ⊥
-IsEndOverFolder ReadFault = ⊥
-IsEndOverFolder KeeperFault = ⊥
-IsEndOverFolder Limit = ⊥
-IsEndOverFolder AcceptFault = ⊥
+-- ---- what a command calls: each writes to the sink
 
--- the ends of writing the line that refuses a folder
-abbrev pub IsEndOverRefusal : Status → Type 0
-IsEndOverRefusal InputRefused = ⊤
-IsEndOverRefusal WriteFault = ⊤
-IsEndOverRefusal Memory = ⊤
-IsEndOverRefusal Done = ⊥
-IsEndOverRefusal Flawed = ⊥
-IsEndOverRefusal Usage = ⊥
-IsEndOverRefusal ReadFault = ⊥
-IsEndOverRefusal KeeperFault = ⊥
-IsEndOverRefusal FolderFault = ⊥
-IsEndOverRefusal Limit = ⊥
-IsEndOverRefusal AcceptFault = ⊥
+abbrev pub reads_source : Command → Bool
+reads_source Edits = true
+reads_source (Compile dir) = false
 
--- the folder was printed or refused, or there was no memory
-abbrev pub IsJudgedOrMemory : Status → Type 0
-IsJudgedOrMemory Done = ⊤
-IsJudgedOrMemory InputRefused = ⊤
-IsJudgedOrMemory Memory = ⊤
-IsJudgedOrMemory Flawed = ⊥
-IsJudgedOrMemory Usage = ⊥
-IsJudgedOrMemory ReadFault = ⊥
-IsJudgedOrMemory WriteFault = ⊥
-IsJudgedOrMemory KeeperFault = ⊥
-IsJudgedOrMemory FolderFault = ⊥
-IsJudgedOrMemory Limit = ⊥
-IsJudgedOrMemory AcceptFault = ⊥
+abbrev pub reads_folder : Command → Bool
+reads_folder Edits = false
+reads_folder (Compile dir) = true
+
+abbrev pub uses_keeper : Command → Bool
+uses_keeper Edits = false
+uses_keeper (Compile dir) = false
+
+-- whether the words name a command that calls so
+abbrev pub calls : (Command → Bool) → Option Command → Bool
+calls does named = option_map_or does named false
+
+-- ---- how a command may end
+
+-- some of what it read was refused, and it went on
+abbrev pub goes_on_refused : Command → Bool
+goes_on_refused Edits = true
+goes_on_refused (Compile dir) = false
+
+-- all that it read was refused
+abbrev pub may_refuse : Command → Bool
+may_refuse Edits = false
+may_refuse (Compile dir) = true
+
+abbrev pub may_end : Command → Status → Bool
+may_end command Done = true
+may_end command Flawed = goes_on_refused command
+may_end command Usage = false
+may_end command InputRefused = may_refuse command
+may_end command ReadFault = reads_source command
+may_end command WriteFault = true
+may_end command Memory = true
+may_end command KeeperFault = uses_keeper command
+may_end command FolderFault = reads_folder command
+may_end command Limit = reads_source command
+may_end command AcceptFault = false
+
+-- it was answered or refused, or met the limit, or there was no memory
+abbrev pub is_no_fault : Status → Bool
+is_no_fault Done = true
+is_no_fault Flawed = true
+is_no_fault Usage = false
+is_no_fault InputRefused = true
+is_no_fault ReadFault = false
+is_no_fault WriteFault = false
+is_no_fault Memory = true
+is_no_fault KeeperFault = false
+is_no_fault FolderFault = false
+is_no_fault Limit = true
+is_no_fault AcceptFault = false
+
+-- An object failed exactly where the run ends by its fault: then its count rose, and else it is as it was.
+pub record FailedOnlyAt (fault status : Status) (before now : ℕ) : Type 0 where
+  pub rose : status ≡ fault → Rose before now
+  pub kept : status ≢ fault → now ≡ before

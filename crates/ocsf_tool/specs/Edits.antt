@@ -20,9 +20,9 @@ use Rattle.ocsf_bundle.specs.declared.edit.Change.{Change}
 use Rattle.ocsf_bundle.specs.Edits.{IsEdit}
 use Rattle.ocsf_bundle.specs.After.{IsAfter}
 use Rattle.ocsf_bundle.specs.Stored.{Stored}
-use Rattle.ocsf_item.specs.Compilation.{compilation}
-use Rattle.ocsf_item.specs.Judgement as item
-use Rattle.ocsf_lines.specs.Run.{Output, OutputFront, Replies}
+use Rattle.ocsf_rules.specs.Compilation.{compilation}
+use Rattle.ocsf_rules.specs.Judgement as item
+use Rattle.ocsf_lines.specs.Run.{Output, Replies}
 
 -- what stands between two lines: the files with the enabled extensions, and how many edits were accepted
 pub record Edited : Type 0 where
@@ -128,7 +128,3 @@ EditsOutput bytes out is_refused = Output EditStep edits_print no_edits bytes ou
 -- the replies to the lines that a line feed ends, and nothing else
 abbrev pub EditsReplies : List ℕ → List ℕ → Type 0
 EditsReplies bytes out = Replies EditStep no_edits bytes out
-
--- a front of a whole output over these bytes
-abbrev pub EditsFront : List ℕ → List ℕ → Type 0
-EditsFront bytes out = OutputFront EditStep edits_print no_edits bytes out

@@ -22,8 +22,8 @@ use Rattle.ocsf_bundle.specs.Stored.{Stored, stored_path}
 use Rattle.ocsf_bundle.specs.Active.{extension_said}
 use Rattle.ocsf_bundle.specs.After.{IsStoredAs}
 use Rattle.ocsf_bundle.specs.Listing.{in_byte_order}
-use Rattle.ocsf_item.specs.Compilation.{compilation}
-use Rattle.ocsf_item.specs.Verdict.{IsVerdict}
+use Rattle.ocsf_rules.specs.Compilation.{compilation}
+use Rattle.ocsf_rules.specs.Verdict.{IsVerdict}
 use Rattle.ocsf_tool.specs.Edits.{refused_tree}
 
 -- ---- one file
@@ -116,12 +116,6 @@ pub record CompileOutput (dir : List ℕ) (lying : List KeptFile) (out : List �
   pub compiled : IsCompiled dir lying made
   pub written : out ≡ compile_text made
   pub refused : is_refused ≡ is_err made
-
--- a front of a whole output
-pub record CompileFront (dir : List ℕ) (lying : List KeptFile) (out : List ℕ) : Type 0 where
-  pub more : List ℕ
-  pub is_refused : Bool
-  pub output : CompileOutput dir lying (out ++ more) is_refused
 
 -- Bytes were written that stand so. Where the sink tells what was written, these are the bytes that it gained.
 pub record Written (old new : Option (List ℕ)) (Holds : List ℕ → Type 0) : Type 0 where

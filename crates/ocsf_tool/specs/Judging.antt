@@ -3,8 +3,8 @@ use Rattle.std.specs.Prelude.{◌≡◌, ℕ, Option, Some, None, Result, Ok, Er
 use Rattle.std.specs.Option.{option_or}
 use Rattle.ocsf_tree.specs.declared.fault.Fault.{Fault}
 use Rattle.ocsf_bundle.specs.Stored.{Stored}
-use Rattle.ocsf_item.specs.Judgement.{revision_fault}
-use Rattle.ocsf_item.specs.Verdict.{IsVerdict}
+use Rattle.ocsf_rules.specs.Judgement.{revision_fault}
+use Rattle.ocsf_rules.specs.Verdict.{IsVerdict}
 
 -- refused where there is a fault
 abbrev pub unless_refused : Option Fault → Stored → Result Stored Fault

@@ -1,5 +1,5 @@
--- What holds of every line and every folder: the statements of the laws in src/laws.rt.
-use Rattle.std.specs.Prelude.{◌≡◌, ℕ, List, filter, Result, Ok}
+-- What holds of every line, folder and run: the statements of the laws in src/laws.rt.
+use Rattle.std.specs.Prelude.{◌≡◌, ℕ, ◌^◌, ◌≤◌, List, length, filter, Option, IfSome, Result, Ok}
 use Rattle.ocsf_edge.specs.declared.records.KeptFile.{KeptFile}
 use Rattle.ocsf_edge.specs.Folder.{IsListing}
 use Rattle.ocsf_tree.specs.declared.tree.Tree.{Tree}
@@ -12,9 +12,12 @@ use Rattle.ocsf_bundle.specs.Edits.{IsEdit}
 use Rattle.ocsf_bundle.specs.After.{IsAfter}
 use Rattle.ocsf_bundle.specs.Listing.{in_byte_order}
 use Rattle.ocsf_bundle.specs.Stored.{Stored}
-use Rattle.ocsf_item.specs.Verdict.{types_of, AreDecided}
+use Rattle.ocsf_rules.specs.Verdict.{types_of, AreDecided}
+use Rattle.ocsf_tool.specs.declared.status.Status.TheVariants.{Limit}
+use Rattle.ocsf_tool.specs.Commands.{Command}
 use Rattle.ocsf_tool.specs.Edits.{Edited, IsJudgement}
 use Rattle.ocsf_tool.specs.Folders.{AreFilesAt, all_enabled, IsCompiled}
+use Rattle.ocsf_tool.specs.Outputs.{Told, Ran}
 
 -- the line says an edit that leads to this bundle
 pub record LeadsTo (old : Edited) (line : List ℕ) (new : Stored) : Type 0 where
@@ -39,3 +42,8 @@ abbrev pub HasOneSchema : Type 0
 HasOneSchema = (dir : List ℕ) (lying : List KeptFile) (a b : Result (List ℕ) Fault)
     → ((files : List StoredFile) → AreFilesOf dir lying files → AreDecided (types_of (all_enabled files)))
     → IsCompiled dir lying a → IsCompiled dir lying b → a ≡ b
+
+-- a run ends at the limit only over a source that had so many bytes left, where it tells them
+abbrev pub LimitTakesItsBytes : Type 0
+LimitTakesItsBytes = (command : Command) (told : Told) (left_old left_new written_old written_new : Option (List ℕ))
+    → Ran command told Limit left_old left_new written_old written_new → IfSome left_old (λ bytes. 2 ^ 40 ≤ length bytes)

@@ -1,6 +1,7 @@
 pub mod Answered
 pub mod Commands
 pub mod Edits
+pub mod Ends
 pub mod ExitCodes
 pub mod FolderParts
 pub mod Folders
@@ -8,3 +9,4 @@ pub mod Fronts
 pub mod Judging
 pub mod Laws
 pub mod Outcomes
+pub mod Outputs

@@ -1,7 +1,7 @@
 // A bundle with its schema, after so many edits.
 ghost use Rattle.std.specs.Prelude.{◌≡◌, None, IfOk, IfErr, OnOk};
-ghost use Rattle.ocsf_item.specs.Compilation.{IsCompilation};
-ghost use Rattle.ocsf_item.specs.Verdict.{IsVerdict};
+ghost use Rattle.ocsf_rules.specs.Compilation.{IsCompilation};
+ghost use Rattle.ocsf_rules.specs.Verdict.{IsVerdict};
 ghost use Rattle.ocsf_compiler.specs.Compiles.{IsRefusedFor};
 ghost use Rattle.ocsf_tool.specs.Edits.{no_files};
 

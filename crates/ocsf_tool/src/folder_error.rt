@@ -1,3 +1,4 @@
+// Why a folder isn't compiled.
 use ocsf_edge::Fail;
 use ocsf_raw::RawError;
 use ocsf_tree::Fault;

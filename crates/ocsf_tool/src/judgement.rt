@@ -2,8 +2,8 @@
 ghost use Rattle.std.specs.Prelude.{◌≡◌, Err, All, IfOk};
 ghost use Rattle.ocsf_tree.specs.Valid.{IsValid};
 ghost use Rattle.ocsf_bundle.specs.Edits.{IsValidChange};
-ghost use Rattle.ocsf_item.specs.Judgement.{last_revision};
-ghost use Rattle.ocsf_item.specs.Verdict.{IsVerdict};
+ghost use Rattle.ocsf_rules.specs.Judgement.{last_revision};
+ghost use Rattle.ocsf_rules.specs.Verdict.{IsVerdict};
 ghost use Rattle.ocsf_tool.specs.Edits.{IsChangesOutcome, IsTreeOutcome, IsLineOutcome, IsJudgement, line_fault};
 ghost use Rattle.ocsf_tool.specs.Judging.{IsBundleOutcome};
 ghost use Rattle.ocsf_tool.specs.Outcomes.{outcome_of, NumbersNext};

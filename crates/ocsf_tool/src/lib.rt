@@ -13,7 +13,10 @@ mod laws;
 mod outcome;
 mod replies;
 mod status;
+mod words;
 
 pub use command::run;
-pub use laws::{a_folder_comes_to_one_schema_or_one_fault, a_line_has_one_outcome};
+pub use laws::{
+    a_folder_comes_to_one_schema_or_one_fault, a_line_has_one_outcome, the_limit_takes_its_bytes,
+};
 pub use status::Status;

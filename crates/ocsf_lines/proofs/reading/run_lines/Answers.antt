@@ -1,11 +1,8 @@
-use Rattle.ocsf_lines.proofs.ReadingLemmas.{LinesRan-ended, Ran-nothing, complete, limit_due}
+use Rattle.ocsf_lines.proofs.ReadingLemmas.{Ran-nothing, complete, limit_due}
 use Rattle.ocsf_lines.proofs.reading.run_lines.Goals as goal
 
-pub returns-in_default-clause-memory : goal.returns-in_default-clause-memory
-returns-in_default-clause-memory g c = λ is. Ran-nothing _ _ g.met.M.LineMachine.answers _ _ _
-
-pub returns-clause-ended : goal.returns-clause-ended
-returns-clause-ended g c = LinesRan-ended _ _ _ _ _ _ _ c.read_lines.result c.read_lines.ensures.ran
+pub returns-in_default-clause-ran : goal.returns-in_default-clause-ran
+returns-in_default-clause-ran g c = Ran-nothing _ _ g.met.M.LineMachine.answers _ _ _
 
 pub returns-clause-limit_due : goal.returns-clause-limit_due
 returns-clause-limit_due g c =

@@ -4,7 +4,7 @@ use Rattle.ocsf_schema.specs.Lookups.{IsByKey}
 use Rattle.ocsf_bundle.specs.Stored.{Stored}
 use Rattle.ocsf_bundle.specs.FilesLook.{looks}
 use Rattle.ocsf_bundle.specs.Listing.{listing}
-use Rattle.ocsf_item.specs.PrintedSchema.{items}
+use Rattle.ocsf_rules.specs.PrintedSchema.{items}
 use Rattle.ocsf_compiler.proofs.BundleFaults.{whole}
 use Rattle.ocsf_tool.specs.Edits.{no_files}
 use Rattle.ocsf_tool.proofs.compilation.schema_of_no_files.Goals as goal

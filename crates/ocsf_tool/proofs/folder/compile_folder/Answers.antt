@@ -1,5 +1,5 @@
 use Rattle.std.proofs.Common.{Some, Ok, Err, rules}
-use Rattle.ocsf_item.specs.Verdict.{IsVerdict}
+use Rattle.ocsf_rules.specs.Verdict.{IsVerdict}
 use Rattle.ocsf_schema.specs.Schema.{schema_text}
 use Rattle.ocsf_tool.specs.Folders.{IsCompiled}
 use Rattle.ocsf_tool.specs.FolderParts.{IsBundleOf}

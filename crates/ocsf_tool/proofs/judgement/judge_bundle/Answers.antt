@@ -1,8 +1,8 @@
 use Rattle.std.proofs.Common.{ℕ, Ok, Err, Some, sym, subst, rules}
 use Rattle.std.proofs.lemmas.Bool.{ne_eqb}
 use Rattle.ocsf_bundle.specs.Stored.{Stored}
-use Rattle.ocsf_item.specs.Judgement.{last_revision}
-use Rattle.ocsf_item.specs.Verdict.{IsVerdict}
+use Rattle.ocsf_rules.specs.Judgement.{last_revision}
+use Rattle.ocsf_rules.specs.Verdict.{IsVerdict}
 use Rattle.ocsf_tool.specs.Judging.{IsBundleOutcome}
 use Rattle.ocsf_tool.proofs.Judged.{accepted_outcome, refused_outcome}
 use Rattle.ocsf_tool.proofs.judgement.judge_bundle.Goals as goal

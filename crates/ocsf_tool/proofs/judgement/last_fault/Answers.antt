@@ -1,7 +1,7 @@
 use Rattle.std.proofs.Common.{◌≡◌, None, Some, Err, sym, subst, rules}
 use Rattle.ocsf_tree.specs.declared.fault.Fault.{Fault}
-use Rattle.ocsf_item.specs.Judgement.{last_revision, no_revision_left}
-use Rattle.ocsf_item.specs.Verdict.{IsVerdict}
+use Rattle.ocsf_rules.specs.Judgement.{last_revision, no_revision_left}
+use Rattle.ocsf_rules.specs.Verdict.{IsVerdict}
 use Rattle.ocsf_tool.specs.Judging.{IsBundleOutcome}
 use Rattle.ocsf_tool.proofs.Judged.{last_outcome, refused_outcome}
 use Rattle.ocsf_tool.proofs.judgement.last_fault.Goals as goal
