@@ -32,25 +32,45 @@ fn no_store(alloc: Global) -> SureKeeper {
     })
 }
 
-fn main(rt: HostRuntime) -> ExitCode {
+/// Runs the words over the standard streams and the file system.
+fn run_words(rt: &HostRuntime) -> Status {
     let alloc = rt.alloc();
-    let Ok(words) = words(&rt, alloc) else {
-        return ExitCode::from(Status::Memory.code());
+    let Ok(words) = words(rt, alloc) else {
+        return Status::Memory;
     };
     let mut source = StdSource::new(rt.reader());
-    let mut sink = StdSink::new(io::writer(&rt));
-    let mut folder = DirFolder::new(&rt);
+    let mut sink = StdSink::new(io::writer(rt));
+    let mut folder = DirFolder::new(rt);
     let mut keeper = no_store(alloc);
-    let status = run(
+    run(
         alloc,
         words.as_slice(),
         &mut source,
         &mut sink,
         &mut folder,
         &mut keeper,
-    );
-    if status == Status::Usage {
-        let _ = eprintln!(rt; "{USAGE}");
+    )
+}
+
+/// What standard error is told of a run that ended so: which object failed, unless the answer says all.
+fn notice(status: Status) -> Option<&'static str> {
+    match status {
+        Status::Done | Status::Flawed | Status::InputRefused => None,
+        Status::Usage => Some(USAGE),
+        Status::ReadFault => Some("ocsf: the input could not be read"),
+        Status::WriteFault => Some("ocsf: the output could not be written"),
+        Status::Memory => Some("ocsf: out of memory"),
+        Status::KeeperFault => Some("ocsf: the store could not be read or written"),
+        Status::FolderFault => Some("ocsf: the folder could not be read"),
+        Status::Limit => Some("ocsf: the input has 2^40 bytes or more"),
+        Status::AcceptFault => Some("ocsf: no connection could be accepted"),
+    }
+}
+
+fn main(rt: HostRuntime) -> ExitCode {
+    let status = run_words(&rt);
+    if let Some(notice) = notice(status) {
+        let _ = eprintln!(rt; "{notice}");
     }
     ExitCode::from(status.code())
 }
