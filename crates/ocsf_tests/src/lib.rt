@@ -1,26 +1,11 @@
-//! Tests of the lower crates, up to the bundle and the kinds, through their public faces. They stand in a
-//! crate of their own, as a crate that has tests is proved again with them.
+//! Tests of what no row of a table can say: the forms in memory and of the system with their failing calls, and streams.
+//! What rows can say is in `ocsf_rows` and `ocsf_run_rows`. The tests stand in a crate of their own, as a crate that
+//! has tests is proved again with them.
 #![tactic(auto)]
 
 #[cfg(test)]
-mod of_bundle_faults;
-#[cfg(test)]
 mod of_edge;
-#[cfg(test)]
-mod of_edits;
-#[cfg(test)]
-mod of_kind;
 #[cfg(test)]
 mod of_lines;
 #[cfg(test)]
-mod of_looks;
-#[cfg(test)]
-mod of_merge;
-#[cfg(test)]
-mod of_raw;
-#[cfg(test)]
-mod of_schema;
-#[cfg(test)]
 mod of_tree;
-#[cfg(test)]
-mod shared;

@@ -1,10 +1,10 @@
 // The outside in memory and of the system.
-use crate::shared::halves;
 use ocsf_edge::{
     Bytes, DirFolder, Folder, Keeper, Kept, KeptFile, MemoryFolder, MemorySink, MemorySource, Move,
     Seq, Sink, Source, StdSink, StdSource, SureFolder, SureKeeper, SureSink, SureSource, write_all,
     write_both,
 };
+use ocsf_table::halves;
 use std::alloc::{AllocError, Global};
 use std::io::Read;
 use std::os::unix::fs::symlink;

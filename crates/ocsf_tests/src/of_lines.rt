@@ -1,10 +1,11 @@
+// Runs of a machine over the lines of a source, in pieces and with faults.
 ghost use Rattle.std.specs.Prelude.{◌≡◌, ◌+◌, ◌%◌, ◌^◌, ◌==◌, ◌∷◌, ◌++◌, [], ℕ, IfOk, if◌then◌else◌, codes, length, take, refl};
 ghost use Rattle.std.proofs.Common.{arith, subst, sym};
 ghost use Rattle.std.proofs.lemmas.List.{take-take};
 
-use crate::shared::halves;
 use ocsf_edge::{Bytes, Failed, MemorySink, MemorySource, Seq, Sink, write_all};
 use ocsf_lines::{LineMachine, LinesEnd, Reply, run_lines};
+use ocsf_table::halves;
 use std::alloc::{AllocError, Global};
 use std::test::Fail;
 
