@@ -1,3 +1,4 @@
+// A bundle: the files with the enabled extensions, and what is asked of them.
 ghost use Rattle.std.specs.Prelude.{◌≡◌, ℕ, List, [], All, IfOk, slice_get, length, ◌≤◌, IfSome};
 ghost use Rattle.std.specs.Option.{option_copied, option_map};
 ghost use Rattle.ocsf_tree.specs.ByName.{IsByName};

@@ -1,3 +1,4 @@
+// Cells, and the parts that they show.
 use ocsf_raw::{CategoryEntry, DictEntry, ExtFile, ItemFile, ProfileFile, RawAttr, TypeEntry};
 use ocsf_tree::{Key, Text, TryClone};
 use std::alloc::AllocError;

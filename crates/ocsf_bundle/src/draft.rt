@@ -1,3 +1,4 @@
+// The files and names that changes leave, one change after the other.
 ghost use Rattle.std.specs.Prelude.{◌≡◌, ℕ, List, All, IfOk, OnOk, unwrap_or};
 ghost use Rattle.std.specs.BTreeMap.{get};
 ghost use Rattle.ocsf_tree.specs.ByName.{IsByName, text_cmp};

@@ -1,3 +1,4 @@
+// Edits, and the edit that a tree says.
 ghost use Rattle.std.specs.Prelude.{◌≡◌, IfOk, All, option_map};
 ghost use Rattle.std.specs.List.{filter_map};
 ghost use Rattle.std.specs.Option.{option_copied};

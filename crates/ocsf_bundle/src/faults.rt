@@ -1,3 +1,4 @@
+// Faults of bundles: their labels, and the lesser of two.
 ghost use Rattle.std.specs.Prelude.{◌≡◌, IfOk};
 ghost use Rattle.ocsf_bundle.specs.BundleFaults.{fault, labelled};
 ghost use Rattle.ocsf_bundle.specs.OwnFaults.{lesser_of};

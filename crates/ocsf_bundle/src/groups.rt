@@ -1,3 +1,4 @@
+// Files in groups by key, each group in the order that its cell shows.
 ghost use Rattle.std.specs.Prelude.{◌≡◌, ℕ, List, IfOk, OnOk, Some};
 ghost use Rattle.std.specs.BTreeMap.{get, IsOrdered};
 ghost use Rattle.ocsf_tree.specs.ByName.{IsByName, text_cmp};

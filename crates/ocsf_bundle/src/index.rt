@@ -1,3 +1,4 @@
+// What is kept of the files that count, by what is asked of them.
 ghost use Rattle.std.specs.Prelude.{◌≡◌, ◌++◌, [], IfOk, OnOk};
 ghost use Rattle.ocsf_bundle.specs.Active.{in_layers};
 ghost use Rattle.ocsf_bundle.specs.Groups.{given_by, groups_of};

@@ -1,3 +1,4 @@
+// Keys that are given twice.
 ghost use Rattle.std.specs.Prelude.{◌≡◌, IfOk};
 ghost use Rattle.std.specs.List.{filter_map};
 ghost use Rattle.ocsf_tree.specs.ByName.{IsByName};

@@ -1,3 +1,4 @@
+// The full keys of the files that count, in order.
 ghost use Rattle.std.specs.Prelude.{◌≡◌, IfOk};
 ghost use Rattle.std.specs.Option.{option_copied};
 ghost use Rattle.ocsf_bundle.specs.Keys.{key_of, has_slash, has_no_other_name, patched, item_key};

@@ -1,3 +1,4 @@
+// What a cell shows, part by part.
 ghost use Rattle.std.specs.Prelude.{◌≡◌, ◌≤◌, slice_get, IfSome};
 ghost use Rattle.std.specs.Option.{option_map, option_copied};
 ghost use Rattle.ocsf_raw.specs.Ordered.{IsByKey, IsTypeValid};

@@ -1,3 +1,4 @@
+// Maps by a name, and their items in order.
 ghost use Rattle.std.specs.Prelude.{◌≡◌, ℕ, List, IfOk, OnOk, Some, None, is_some};
 ghost use Rattle.std.specs.BTreeMap.{get, IsOrdered};
 ghost use Rattle.ocsf_tree.specs.ByName.{IsByName, at_name, text_cmp};

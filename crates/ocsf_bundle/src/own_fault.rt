@@ -1,3 +1,4 @@
+// The least fault of the files as a whole and of their types.
 ghost use Rattle.std.specs.Prelude.{◌≡◌, IfOk, nat_lt, length, codes};
 ghost use Rattle.std.specs.List.{sum_by};
 ghost use Rattle.ocsf_tree.specs.ByName.{IsByName};

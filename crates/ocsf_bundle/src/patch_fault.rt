@@ -1,3 +1,4 @@
+// Patches of nothing.
 ghost use Rattle.std.specs.Prelude.{◌≡◌, IfOk};
 ghost use Rattle.std.specs.List.{filter_map};
 ghost use Rattle.ocsf_tree.specs.LeastFault.{least_fault};

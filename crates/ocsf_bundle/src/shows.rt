@@ -1,3 +1,4 @@
+// What shows cells: the trait by which compiling asks the files.
 ghost use Rattle.std.specs.Prelude.{◌≡◌, ◌≤◌, length, slice_get, IfSome};
 ghost use Rattle.std.specs.Option.{option_map};
 ghost use Rattle.ocsf_bundle.specs.declared.cells.Cell.{Cell};

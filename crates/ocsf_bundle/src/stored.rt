@@ -1,3 +1,4 @@
+// A file as it is stored, and as it counts.
 ghost use Rattle.std.specs.Prelude.{IfOk};
 ghost use Rattle.ocsf_tree.specs.Valid.{IsValid};
 ghost use Rattle.ocsf_bundle.specs.Stored.{stored_path, IsStoredSound};

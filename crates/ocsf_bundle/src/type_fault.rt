@@ -1,3 +1,4 @@
+// Types that lead nowhere.
 ghost use Rattle.std.specs.Prelude.{◌≡◌, IfOk, [], map, Some, unwrap_or, is_some};
 ghost use Rattle.std.specs.List.{filter_map};
 ghost use Rattle.std.specs.Option.{option_copied, option_or};

@@ -1,3 +1,4 @@
+// The values that a base and a limit take.
 ghost use Rattle.std.specs.Prelude.{◌≡◌, IsTrue, ◌↔◌, false, length, Contains};
 ghost use Rattle.std.specs.Str.{chars};
 ghost use Rattle.ocsf_tree.specs.Valid.{IsValid};

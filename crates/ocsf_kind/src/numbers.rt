@@ -1,3 +1,4 @@
+// The numbers of classes and events.
 ghost use Rattle.std.specs.Prelude.{◌≡◌, ◌≤◌};
 ghost use Rattle.ocsf_kind.specs.Numbers.{category_uid, class_uid, type_uid};
 

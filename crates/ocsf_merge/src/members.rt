@@ -1,3 +1,4 @@
+// The members of an enumeration, one layer over another.
 ghost use Rattle.std.specs.Prelude.{◌≡◌, ◌++◌, IfOk, OnOk};
 ghost use Rattle.ocsf_tree.specs.ByName.{IsByName};
 ghost use Rattle.ocsf_tree.specs.FirstOfEach.{first_of_each};

@@ -1,3 +1,4 @@
+// What layers say of attributes, folded layer by layer.
 ghost use Rattle.std.specs.Prelude.{◌≡◌, ◌++◌, ◌∷◌, [], List, IfOk, OnOk, OnErr};
 ghost use Rattle.ocsf_raw.specs.Ordered.{AreEntriesOrdered};
 ghost use Rattle.ocsf_merge.specs.Layers.{Layer, layer_of};

@@ -1,3 +1,4 @@
+// What the files of each form hold.
 ghost use Rattle.std.specs.Prelude.{◌≡◌, [], IfOk, unwrap_or, option_and_then, codes};
 ghost use Rattle.ocsf_tree.specs.declared.tree.Tree.{out-Tree};
 ghost use Rattle.ocsf_tree.specs.Lookup.{member_at};
@@ -10,10 +11,13 @@ use crate::entries::entries;
 use crate::files::{ExtFile, ItemFile, ProfileFile, RawFile};
 use crate::path_form::Form;
 use crate::readers::{
-    copied_at, copied_or_empty, members_at, number_at, requirement_at, texts_at, texts_in,
+    both_at, copied_at, copied_or_empty, members_at, number_at, requirement_at, texts_at, texts_in,
 };
 use ocsf_tree::{Member, Requirement, Row, Side, Text, Tree};
 use std::alloc::{AllocError, Global};
+
+/// The names of both constraints, where they are given.
+type Constraints = (Option<Row<Text>>, Option<Row<Text>>);
 
 fn type_members(tree: &Tree) -> &[Member]
     requires { IsValid tree.now }
@@ -93,23 +97,51 @@ fn profiles(alloc: Global, tree: &Tree) -> Result<Row<Text>, AllocError>
     }
 }
 
+/// The profiles and the includes of an item.
+fn lists_at(alloc: Global, tree: &Tree) -> Result<(Row<Text>, Row<Text>), AllocError>
+    requires { IsValid tree.now }
+    ensures profiles { IfOk result (λ made. made.0 ≡ unwrap_or (texts_at (codes "profiles") tree.now) []) }
+    ensures includes { IfOk result (λ made. made.1 ≡ includes tree.now) }
+{
+    let profiles = profiles(alloc, tree)?;
+    let includes = includes(alloc, tree)?;
+    Ok((profiles, includes))
+}
+
+/// The constraints `at_least_one` and `just_one`.
+fn constraints_at(alloc: Global, tree: &Tree) -> Result<Constraints, AllocError>
+    requires { IsValid tree.now }
+    ensures at_least_one { IfOk result (λ made. made.0 ≡ constraint_at (codes "at_least_one") tree.now) }
+    ensures just_one { IfOk result (λ made. made.1 ≡ constraint_at (codes "just_one") tree.now) }
+{
+    let at_least_one = constraint_at(alloc, tree, "at_least_one")?;
+    let just_one = constraint_at(alloc, tree, "just_one")?;
+    Ok((at_least_one, just_one))
+}
+
 fn item_file(alloc: Global, side: Side, tree: &Tree) -> Result<ItemFile, AllocError>
     requires { IsValid tree.now }
     ensures { IfOk result (λ made. made ≡ item_file side tree.now) }
 {
+    let (name, parent) = both_at(tree, "name", "extends")?;
+    let (caption, description) = both_at(tree, "caption", "description")?;
+    let category = copied_at(tree, "category")?;
+    let (profiles, includes) = lists_at(alloc, tree)?;
+    let (at_least_one, just_one) = constraints_at(alloc, tree)?;
+    let attributes = entries(alloc, members_at(tree, "attributes"))?;
     Ok(ItemFile {
         side,
-        name: copied_at(tree, "name")?,
-        caption: copied_at(tree, "caption")?,
-        description: copied_at(tree, "description")?,
-        parent: copied_at(tree, "extends")?,
-        category: copied_at(tree, "category")?,
+        name,
+        caption,
+        description,
+        parent,
+        category,
         uid: item_uid(side, tree),
-        profiles: profiles(alloc, tree)?,
-        includes: includes(alloc, tree)?,
-        attributes: entries(alloc, members_at(tree, "attributes"))?,
-        at_least_one: constraint_at(alloc, tree, "at_least_one")?,
-        just_one: constraint_at(alloc, tree, "just_one")?,
+        profiles,
+        includes,
+        attributes,
+        at_least_one,
+        just_one,
     })
 }
 
@@ -138,13 +170,17 @@ fn profile_file(alloc: Global, tree: &Tree) -> Result<ProfileFile, AllocError>
     requires { IsValid tree.now }
     ensures { IfOk result (λ made. made ≡ profile_file tree.now) }
 {
+    let name = copied_or_empty(alloc, tree, "name")?;
+    let (caption, description) = both_at(tree, "caption", "description")?;
+    let group = annotated_group(tree)?;
+    let attributes = entries(alloc, members_at(tree, "attributes"))?;
     Ok(ProfileFile {
-        name: copied_or_empty(alloc, tree, "name")?,
-        caption: copied_at(tree, "caption")?,
-        description: copied_at(tree, "description")?,
-        group: annotated_group(tree)?,
+        name,
+        caption,
+        description,
+        group,
         requirement: annotated_requirement(tree),
-        attributes: entries(alloc, members_at(tree, "attributes"))?,
+        attributes,
     })
 }
 

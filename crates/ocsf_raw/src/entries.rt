@@ -1,3 +1,4 @@
+// The entries of items, profiles and include files.
 ghost use Rattle.std.specs.Prelude.{◌≡◌, Option, IfOk, unwrap_or, codes};
 ghost use Rattle.ocsf_tree.specs.declared.tree.Member.{Member};
 ghost use Rattle.std.specs.List.{filter_map};
@@ -11,8 +12,8 @@ use crate::dictionary::{DictEntry, TypeEntry};
 use crate::files::CategoryEntry;
 use crate::members::is_include;
 use crate::readers::{
-    copied_at, flag_at, is_null, length_at, members_at, number_at, requirement_at, span_at,
-    text_at, values_at,
+    both_at, copied_at, flag_at, is_null, length_at, members_at, number_at, requirement_at,
+    span_at, text_at, values_at,
 };
 use ocsf_tree::{EnumMember, Member, Row, Text, Tree};
 use std::alloc::{AllocError, Global};
@@ -92,18 +93,23 @@ fn entry_named(alloc: Global, name: &Text, tree: &Tree) -> Result<RawAttr, Alloc
     requires { IsValid tree.now }
     ensures { IfOk result (λ made. made ≡ entry_named name.now tree.now) }
 {
+    let (caption, description) = both_at(tree, "caption", "description")?;
+    let (type_name, sibling) = both_at(tree, "type", "sibling")?;
+    let group = copied_at(tree, "group")?;
+    let mark = mark_at(tree)?;
+    let members = enum_members(alloc, tree)?;
     Ok(RawAttr {
         name: name.copy()?,
         removed: is_null(tree),
-        caption: copied_at(tree, "caption")?,
-        description: copied_at(tree, "description")?,
-        type_name: copied_at(tree, "type")?,
+        caption,
+        description,
+        type_name,
         is_array: flag_at(tree, "is_array"),
-        members: enum_members(alloc, tree)?,
-        sibling: copied_at(tree, "sibling")?,
+        members,
+        sibling,
         requirement: requirement_at(tree, "requirement"),
-        mark: mark_at(tree)?,
-        group: copied_at(tree, "group")?,
+        mark,
+        group,
     })
 }
 
@@ -124,14 +130,17 @@ fn dictionary_entry_named(alloc: Global, name: &Text, tree: &Tree) -> Result<Dic
     requires { IsValid tree.now }
     ensures { IfOk result (λ made. made ≡ dictionary_entry_named name.now tree.now) }
 {
+    let (caption, description) = both_at(tree, "caption", "description")?;
+    let (type_name, sibling) = both_at(tree, "type", "sibling")?;
+    let members = enum_members(alloc, tree)?;
     Ok(DictEntry {
         name: name.copy()?,
-        caption: copied_at(tree, "caption")?,
-        description: copied_at(tree, "description")?,
-        type_name: copied_at(tree, "type")?,
+        caption,
+        description,
+        type_name,
         is_array: flag_at(tree, "is_array"),
-        members: enum_members(alloc, tree)?,
-        sibling: copied_at(tree, "sibling")?,
+        members,
+        sibling,
     })
 }
 
@@ -152,15 +161,18 @@ fn type_named(name: &Text, tree: &Tree) -> Result<TypeEntry, AllocError>
     requires { IsValid tree.now }
     ensures { IfOk result (λ made. made ≡ type_named name.now tree.now) }
 {
+    let (caption, description) = both_at(tree, "caption", "description")?;
+    let (parent, pattern) = both_at(tree, "type", "regex")?;
+    let values = values_at(tree, "values")?;
     Ok(TypeEntry {
         name: name.copy()?,
-        caption: copied_at(tree, "caption")?,
-        description: copied_at(tree, "description")?,
-        parent: copied_at(tree, "type")?,
-        pattern: copied_at(tree, "regex")?,
+        caption,
+        description,
+        parent,
+        pattern,
         range: span_at(tree, "range"),
         max_len: length_at(tree, "max_len"),
-        values: values_at(tree, "values")?,
+        values,
     })
 }
 

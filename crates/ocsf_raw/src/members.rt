@@ -1,3 +1,4 @@
+// What is wanted of the members of an object.
 ghost use Rattle.std.specs.Prelude.{◌≡◌};
 ghost use Rattle.ocsf_raw.specs.Wanted.{whole_in, field_of, version_fields, category_fields, dictionary_fields, dictionary_entry_fields, type_fields, object_item_fields, constraints_fields, profile_fields, annotations_fields, entry_fields, enum_member_fields, extension_fields, change_fields, categories_fields, type_table_fields, include_fields, item_fields, named_entry, is_include, item_entry_at, layer_entry_at, enum_member_at, member_wanted, item_wanted, has_null_entries};
 

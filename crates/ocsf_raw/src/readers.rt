@@ -1,3 +1,4 @@
+// Members read as texts, numbers, flags and lists.
 ghost use Rattle.std.specs.Prelude.{◌≡◌, ◌^◌, map, IfOk, unwrap_or, option_map, option_and_then};
 ghost use Rattle.std.specs.Option.{option_copied};
 ghost use Rattle.std.specs.List.{filter_map};
@@ -38,6 +39,21 @@ pub fn copied_at(tree: &Tree, name: &str) -> Result<Option<Text>, AllocError>
         Some(text) => Ok(Some(text.copy()?)),
         None => Ok(None),
     }
+}
+
+/// The texts of both members.
+pub fn both_at(
+    tree: &Tree,
+    first: &str,
+    second: &str,
+) -> Result<(Option<Text>, Option<Text>), AllocError>
+    requires { IsValid tree.now }
+    ensures first { IfOk result (λ made. made.0 ≡ text_at first.now tree.now) }
+    ensures second { IfOk result (λ made. made.1 ≡ text_at second.now tree.now) }
+{
+    let first = copied_at(tree, first)?;
+    let second = copied_at(tree, second)?;
+    Ok((first, second))
 }
 
 pub fn copied_or_empty(alloc: Global, tree: &Tree, name: &str) -> Result<Text, AllocError>

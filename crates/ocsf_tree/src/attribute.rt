@@ -1,3 +1,4 @@
+// What files and schemas have in common of attributes.
 use crate::text::Text;
 use crate::try_clone::TryClone;
 use std::alloc::AllocError;

@@ -1,3 +1,4 @@
+// Whether two trees are the same.
 ghost use Rattle.std.specs.Prelude.{◌≡◌, IsTrue, ◌↔◌, length, true};
 ghost use Rattle.ocsf_tree.specs.Data.{data_of, list_data, members_data};
 ghost use Rattle.ocsf_tree.specs.Valid.{IsValid};

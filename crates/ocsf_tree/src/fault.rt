@@ -1,3 +1,4 @@
+// Faults, and the codes that name them.
 ghost use Rattle.std.specs.Prelude.{◌≡◌};
 ghost use Rattle.std.specs.Ordering.{is_lt};
 ghost use Rattle.ocsf_tree.specs.LeastFault.{fault_cmp, lesser_fault};

@@ -1,3 +1,4 @@
+// The first number of a text that isn't a whole one.
 ghost use Rattle.std.specs.Prelude.{◌≡◌, IfOk, option_map, reverse};
 ghost use Rattle.serde_json.specs.View.{view, items_view, members_view};
 ghost use Rattle.ocsf_tree.specs.FirstInexact.{first, first_item, first_member};

@@ -1,3 +1,4 @@
+// The full key of a class or an object.
 use crate::text::Text;
 use crate::try_clone::TryClone;
 use std::alloc::AllocError;

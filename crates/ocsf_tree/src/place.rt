@@ -1,3 +1,4 @@
+// Places in a tree: their order, and JSON Pointer (RFC 6901).
 ghost use Rattle.std.specs.Prelude.{◌≡◌, IfOk, OnOk, ◌++◌, ◌∷◌, [], string_bytes, flat_map, codes};
 ghost use Rattle.std.specs.Char.{encode_utf8};
 ghost use Rattle.ocsf_tree.specs.Place.{step_cmp, place_cmp, pointer_byte, step_text, pointer_text};

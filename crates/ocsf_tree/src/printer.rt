@@ -1,3 +1,4 @@
+// The compact text of a tree.
 ghost use Rattle.std.specs.Prelude.{◌≡◌, IfOk, OnOk, ◌++◌, ◌∷◌, [], ◌≤◌, true};
 ghost use Rattle.ocsf_tree.specs.Reading.{IsReading, nesting};
 ghost use Rattle.json.specs.Token.{number};

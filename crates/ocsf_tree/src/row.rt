@@ -1,3 +1,4 @@
+// A list that contracts see as the list of its items.
 ghost use Rattle.std.specs.Prelude.{◌≡◌, ◌<◌, ◌≤◌, [], ◌∷◌, ◌++◌, IfOk, OnOk, OnErr, IsTrue, ◌↔◌};
 ghost use Rattle.std.specs.Prelude.{length, reverse, insert, remove, slice_get, slice_set};
 

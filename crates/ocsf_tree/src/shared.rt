@@ -1,3 +1,4 @@
+// A shared value that contracts see as the value.
 ghost use Rattle.std.specs.Prelude.{◌≡◌, IfOk};
 
 use crate::try_clone::TryClone;

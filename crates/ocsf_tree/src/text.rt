@@ -1,3 +1,4 @@
+// A text, which is a shared string.
 ghost use Rattle.std.specs.Prelude.{◌≡◌, IfOk, string_bytes, [], IsTrue, ◌↔◌};
 
 use crate::shared::Shared;

@@ -1,3 +1,4 @@
+// A JSON tree.
 ghost use Rattle.std.specs.Prelude.{◌≡◌, IfOk};
 ghost use Rattle.std.specs.Option.{IfSome, option_copied};
 ghost use Rattle.ocsf_tree.specs.Lookup.{member_at, member_in};

@@ -1,3 +1,4 @@
+// A copy that equals its source.
 ghost use Rattle.std.specs.Prelude.{◌≡◌, IfOk};
 
 use std::alloc::AllocError;
