@@ -1,10 +1,12 @@
-# `make demo` builds the program and runs its main jobs on the shipped input.
+# `make` proves the program and builds it; `make demo` runs its commands on the examples.
 PROGRAM = crates/ocsf/out/ocsf
 
-.PHONY: demo test
+.PHONY: all demo test
+
+all:
+	cd crates/ocsf && rt run -- edits < /dev/null > /dev/null
 
 demo:
-	cd crates/ocsf && rt run -- edits < /dev/null > /dev/null
 	@examples/demo.sh $(PROGRAM)
 
 test:

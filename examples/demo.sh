@@ -1,41 +1,74 @@
 #!/bin/sh
-# Runs the program on the examples, shows input and answer, and compares the answer with what is expected.
+# Runs both commands on the examples, shows input and answer, and compares the answer with what is expected.
 # usage: examples/demo.sh PROGRAM, at the top of the repository
+# Where the program isn't there, or is older than the sources, they are compiled without a proof and run with checks.
 program=$1
-made=$(mktemp) || exit 1
-trap 'rm -f "$made"' EXIT
+made=$(mktemp -d) || exit 1
+trap 'rm -rf "$made"' EXIT
 
 # The first and the last bytes of a long print.
 ends() {
     echo "$(printf '%s' "$1" | cut -c1-300) .. $(printf '%s' "$1" | tail -c 40)"
 }
 
-# Stops unless the run ended with this status and made what this file holds.
+# Whether the program is there, and no source is newer.
+is_built() {
+    [ -x "$program" ] && [ -z "$(find crates -name out -prune -o -name '*.rt' -newer "$program" -print)" ]
+}
+
+# Runs the command unproved over these files; what it writes and its status go where those of a run go.
+try() {
+    name=$1
+    shift
+    (cd crates/ocsf && rt try --seconds 60 "$@" > "$made/$name" 2> "$made/$name.notes")
+    echo $? > "$made/$name.status"
+}
+
+# Runs both commands, at the same time where they have to be compiled.
+run_both() {
+    if is_built; then
+        "$program" compile examples/schema > "$made/compile"
+        echo $? > "$made/compile.status"
+        "$program" edits < examples/story.edits > "$made/edits"
+        echo $? > "$made/edits.status"
+        return
+    fi
+    echo "No proved program is at $program: \`make\` proves and builds it (docs/GATE.md says how long that takes)."
+    echo "Here the sources are compiled without a proof, and run with a check at each step: two to three minutes."
+    echo
+    files=$(cd examples && find schema -name '*.json' | sed 's|.*|--data &=../../examples/&|')
+    # (the names of the example have no blanks)
+    try compile $files -- compile schema < /dev/null &
+    try edits -- edits < examples/story.edits
+    wait
+}
+
+# Stops unless the command ended with this status and wrote what this file holds.
 compare() {
-    if [ "$1" -ne "$2" ]; then
-        echo "** ended with status $1, and not $2"
+    status=$(cat "$made/$1.status")
+    if [ "$status" -ne "$2" ]; then
+        echo "** ended with status $status, and not $2"
+        cat "$made/$1.notes" 2> /dev/null
         exit 1
     fi
-    if ! cmp "$made" "$3"; then
+    if ! cmp "$made/$1" "$3"; then
         echo "** not as expected"
         exit 1
     fi
-    echo "   (status $1, $(wc -c < "$made" | tr -d ' ') bytes, as in $3)"
+    echo "   (status $status, $(wc -c < "$made/$1" | tr -d ' ') bytes, as in $3)"
 }
+
+run_both
 
 echo "== ocsf compile examples/schema"
 find examples/schema -name '*.json' | LC_ALL=C sort | sed 's/^/   /'
 echo "-- answer"
-"$program" compile examples/schema > "$made"
-status=$?
-ends "$(cat "$made")"
-compare "$status" 0 examples/schema.expected
+ends "$(cat "$made/compile")"
+compare compile 0 examples/schema.expected
 
 echo
 echo "== ocsf edits < examples/story.edits"
-"$program" edits < examples/story.edits > "$made"
-status=$?
-exec 3< "$made"
+exec 3< "$made/edits"
 while IFS= read -r edit; do
     IFS= read -r reply <&3
     if [ "${#edit}" -gt 400 ]; then
@@ -48,4 +81,4 @@ IFS= read -r schema <&3
 echo "-- the schema at the end"
 ends "$schema"
 # A line of the story is refused, so the status is 1.
-compare "$status" 1 examples/story.expected
+compare edits 1 examples/story.expected
