@@ -118,21 +118,62 @@ fn keys_of(alloc: Global, items: &Sides) -> Result<Row<Key>, AllocError>
     Ok(keys)
 }
 
+/// The item files by key, and the keys.
+fn items_and_keys(alloc: Global, files: &[ActiveFile]) -> Result<(Sides, Row<Key>), AllocError>
+    ensures items { IfOk result (λ made. made.0 ≡ (index_of files.now).items) }
+    ensures keys { IfOk result (λ made. made.1 ≡ (index_of files.now).keys) }
+{
+    let items = item_groups(alloc, files)?;
+    let keys = keys_of(alloc, &items)?;
+    Ok((items, keys))
+}
+
+/// The dictionaries and the files with categories, of files in layers.
+fn listings(
+    alloc: Global,
+    layered: &[ActiveFile],
+) -> Result<(Row<ActiveFile>, Row<ActiveFile>), AllocError>
+    ensures dictionaries { IfOk result (λ made. made.0 ≡ dictionaries layered.now) }
+    ensures categories { IfOk result (λ made. made.1 ≡ category_files layered.now) }
+{
+    let dictionaries = dictionaries(alloc, layered)?;
+    let categories = category_files(alloc, layered)?;
+    Ok((dictionaries, categories))
+}
+
+/// The groups of that kind and of the other.
+fn two_groups(
+    alloc: Global,
+    by: GroupBy,
+    other: GroupBy,
+    files: &[ActiveFile],
+) -> Result<(Row<Group>, Row<Group>), AllocError>
+    ensures first { IfOk result (λ made. made.0 ≡ groups_of (given_by by) files.now) }
+    ensures second { IfOk result (λ made. made.1 ≡ groups_of (given_by other) files.now) }
+{
+    let first = groups_of(alloc, by, files)?;
+    let second = groups_of(alloc, other, files)?;
+    Ok((first, second))
+}
+
 /// The files that count, by what is asked of them. It costs as many steps as an ordering of them.
 pub fn index_of(alloc: Global, files: &[ActiveFile]) -> Result<Index, AllocError>
     ensures { IfOk result (λ index. index ≡ index_of files.now) }
 {
     let layered = in_layers(alloc, files)?;
-    let items = item_groups(alloc, files)?;
-    let keys = keys_of(alloc, &items)?;
+    let (dictionaries, categories) = listings(alloc, layered.as_slice())?;
+    let patches = patch_groups(alloc, layered.as_slice())?;
+    let (profiles, includes) = two_groups(alloc, GroupBy::Profile, GroupBy::Include, files)?;
+    let extensions = groups_of(alloc, GroupBy::Extension, files)?;
+    let (items, keys) = items_and_keys(alloc, files)?;
     Ok(Index {
         items,
-        patches: patch_groups(alloc, layered.as_slice())?,
-        profiles: groups_of(alloc, GroupBy::Profile, files)?,
-        includes: groups_of(alloc, GroupBy::Include, files)?,
-        extensions: groups_of(alloc, GroupBy::Extension, files)?,
-        dictionaries: dictionaries(alloc, layered.as_slice())?,
-        categories: category_files(alloc, layered.as_slice())?,
+        patches,
+        profiles,
+        includes,
+        extensions,
+        dictionaries,
+        categories,
         keys,
     })
 }

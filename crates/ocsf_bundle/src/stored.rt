@@ -25,10 +25,15 @@ impl StoredFile {
         ensures file { IsStoredAs path.now tree.now result }
         ensures sound { IfOk result IsStoredSound }
     {
-        let raw = shape(alloc, path.as_str(), tree)?;
+        // What it says comes last, so that no call fails while it is held.
         let text = print(alloc, tree)?;
-        let path = path.copy()?;
-        Ok(StoredFile { path, text, raw })
+        let copied = path.copy()?;
+        let raw = shape(alloc, path.as_str(), tree)?;
+        Ok(StoredFile {
+            path: copied,
+            text,
+            raw,
+        })
     }
 }
 

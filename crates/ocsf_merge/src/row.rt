@@ -22,9 +22,12 @@ struct MarkSaid {
 fn nothing(alloc: Global, name: &Text) -> Result<Spoken, AllocError>
     ensures { IfOk result (λ made. made ≡ nothing name.now) }
 {
+    let type_from = Text::of(alloc, "")?;
+    let mark_from = Text::of(alloc, "")?;
+    let name = name.copy()?;
     Ok(Spoken {
         attr: RawAttr {
-            name: name.copy()?,
+            name,
             removed: false,
             caption: None,
             description: None,
@@ -36,8 +39,8 @@ fn nothing(alloc: Global, name: &Text) -> Result<Spoken, AllocError>
             mark: Mark::Unsaid,
             group: None,
         },
-        type_from: Text::of(alloc, "")?,
-        mark_from: Text::of(alloc, "")?,
+        type_from,
+        mark_from,
         mark_is_key: false,
     })
 }
@@ -50,6 +53,21 @@ fn later<T: TryClone>(new: &Option<T>, old: &Option<T>) -> Result<Option<T>, All
         Some(_) => new.try_clone(),
         None => old.try_clone(),
     }
+}
+
+/// Two texts, each the new one where there is one, else the old one.
+fn both_later(
+    first: &Option<Text>,
+    old_first: &Option<Text>,
+    second: &Option<Text>,
+    old_second: &Option<Text>,
+) -> Result<(Option<Text>, Option<Text>), AllocError>
+    ensures first { IfOk result (λ made. made.0 ≡ option_or first.now old_first.now) }
+    ensures second { IfOk result (λ made. made.1 ≡ option_or second.now old_second.now) }
+{
+    let made = later(first, old_first)?;
+    let other = later(second, old_second)?;
+    Ok((made, other))
 }
 
 fn mark_after(
@@ -143,6 +161,7 @@ fn row_parts(
 ) -> Result<Spoken, AllocError>
     ensures { IfOk result (λ made. made ≡ row_of from.now profile_key.now profile.entry entry.now old.now) }
 {
+    let type_from = type_from_after(alloc, from, entry, old)?;
     let marked = mark_after(
         alloc,
         from,
@@ -151,21 +170,37 @@ fn row_parts(
         &entry.mark,
         old,
     )?;
+    let group = group_after(entry, profile, old)?;
+    let said = &old.attr;
+    let (caption, description) = both_later(
+        &entry.caption,
+        &said.caption,
+        &entry.description,
+        &said.description,
+    )?;
+    let (type_name, sibling) = both_later(
+        &entry.type_name,
+        &said.type_name,
+        &entry.sibling,
+        &said.sibling,
+    )?;
+    let name = entry.name.copy()?;
+    let members = merged_members(alloc, entry.members.as_slice(), said.members.as_slice())?;
     Ok(Spoken {
         attr: RawAttr {
-            name: entry.name.copy()?,
+            name,
             removed: false,
-            caption: later(&entry.caption, &old.attr.caption)?,
-            description: later(&entry.description, &old.attr.description)?,
-            type_name: later(&entry.type_name, &old.attr.type_name)?,
-            is_array: entry.is_array.or(old.attr.is_array),
-            members: merged_members(alloc, entry.members.as_slice(), old.attr.members.as_slice())?,
-            sibling: later(&entry.sibling, &old.attr.sibling)?,
+            caption,
+            description,
+            type_name,
+            is_array: entry.is_array.or(said.is_array),
+            members,
+            sibling,
             requirement: requirement_after(entry, profile, old),
             mark: marked.mark,
-            group: group_after(entry, profile, old)?,
+            group,
         },
-        type_from: type_from_after(alloc, from, entry, old)?,
+        type_from,
         mark_from: marked.from,
         mark_is_key: marked.is_key,
     })

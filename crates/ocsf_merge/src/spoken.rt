@@ -22,10 +22,12 @@ pub struct Spoken {
 
 impl TryClone for Spoken {
     fn try_clone(&self) -> Result<Spoken, AllocError> {
+        let type_from = self.type_from.copy()?;
+        let mark_from = self.mark_from.copy()?;
         Ok(Spoken {
             attr: self.attr.try_clone()?,
-            type_from: self.type_from.copy()?,
-            mark_from: self.mark_from.copy()?,
+            type_from,
+            mark_from,
             mark_is_key: self.mark_is_key,
         })
     }
