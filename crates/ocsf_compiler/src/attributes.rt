@@ -1,6 +1,6 @@
 // The attributes of the dictionaries, merged.
 ghost use Rattle.std.specs.Prelude.{◌≡◌, [], IfOk, All, map, slice_get};
-ghost use Rattle.std.specs.Option.{option_copied, option_and_then, option_or, IfSome};
+ghost use Rattle.std.specs.Option.{option_copied, option_and_then, IfSome};
 ghost use Rattle.ocsf_raw.specs.Ordered.{IsByKey};
 ghost use Rattle.ocsf_bundle.specs.Looks.{look};
 ghost use Rattle.ocsf_rules.specs.Attribute.{dict_said};
@@ -8,9 +8,9 @@ ghost use Rattle.ocsf_rules.specs.MergedDictionary.{entry_said, merged_entry};
 ghost use Rattle.ocsf_compiler.specs.Layers.{as_entry, entry_over};
 
 use ocsf_bundle::{Cell, Part, Shows};
-use ocsf_merge::members_over;
+use ocsf_merge::{both_later, members_over};
 use ocsf_raw::DictEntry;
-use ocsf_tree::{Row, Text, TryClone};
+use ocsf_tree::{Row, Text};
 use std::alloc::{AllocError, Global};
 
 /// The entry at position `k` of those that the cell shows.
@@ -39,31 +39,34 @@ fn nothing(alloc: Global, name: &Text) -> Result<DictEntry, AllocError>
     })
 }
 
-/// The new value where there is one, else the old one.
-pub fn later<T: TryClone>(new: &Option<T>, old: Option<T>) -> Result<Option<T>, AllocError>
-    ensures { IfOk result (λ made. made ≡ option_or new.now old) }
-{
-    match new {
-        Some(_) => new.try_clone(),
-        None => Ok(old),
-    }
-}
-
 /// What a layer says over what those before it say.
-fn entry_over(alloc: Global, layer: &DictEntry, old: DictEntry) -> Result<DictEntry, AllocError>
+fn entry_over(alloc: Global, layer: &DictEntry, old: &DictEntry) -> Result<DictEntry, AllocError>
     requires layer { IsByKey layer.now.members }
-    requires old { IsByKey old.members }
-    ensures { IfOk result (λ made. made ≡ entry_over layer.now old) }
+    requires old { IsByKey old.now.members }
+    ensures { IfOk result (λ made. made ≡ entry_over layer.now old.now) }
 {
+    let (caption, description) = both_later(
+        &layer.caption,
+        &old.caption,
+        &layer.description,
+        &old.description,
+    )?;
+    let (type_name, sibling) = both_later(
+        &layer.type_name,
+        &old.type_name,
+        &layer.sibling,
+        &old.sibling,
+    )?;
+    let name = old.name.copy()?;
     let members = members_over(alloc, layer.members.as_slice(), old.members.as_slice())?;
     Ok(DictEntry {
-        name: old.name,
-        caption: later(&layer.caption, old.caption)?,
-        description: later(&layer.description, old.description)?,
-        type_name: later(&layer.type_name, old.type_name)?,
+        name,
+        caption,
+        description,
+        type_name,
         is_array: layer.is_array.or(old.is_array),
         members,
-        sibling: later(&layer.sibling, old.sibling)?,
+        sibling,
     })
 }
 
@@ -77,7 +80,7 @@ fn merged_entry<B: Shows>(alloc: Global, bundle: &B, name: &Text) -> Result<Dict
         let Some(layer) = entry_at(bundle, &cell, k) else {
             return Ok(entry);
         };
-        entry = entry_over(alloc, layer, entry)?;
+        entry = entry_over(alloc, layer, &entry)?;
     }
     Ok(entry)
 }

@@ -172,9 +172,9 @@ pub fn parts_of(
     ensures profiles { IfOk result (λ parts. IsValid parts.profiles) }
     ensures types { IfOk result (λ parts. IsValid parts.types) }
 {
-    let kinds = kinds_of(alloc, bundle, types)?;
-    let sections = sections_of(alloc, bundle)?;
-    let tables = tables_of(alloc, bundle, types)?;
     let version = version_of(alloc, bundle)?;
+    let kinds = kinds_of(alloc, bundle, types)?;
+    let tables = tables_of(alloc, bundle, types)?;
+    let sections = sections_of(alloc, bundle)?;
     Ok(assembled(pieces, kinds, sections, tables, version))
 }

@@ -6,8 +6,8 @@ ghost use Rattle.ocsf_bundle.specs.Looks.{look};
 ghost use Rattle.ocsf_rules.specs.MergedDictionary.{merged_layers, merged_type};
 ghost use Rattle.ocsf_compiler.specs.Layers.{as_type, type_over};
 
-use crate::attributes::later;
 use ocsf_bundle::{Cell, Part, Shows};
+use ocsf_merge::{both_later, later};
 use ocsf_raw::TypeEntry;
 use ocsf_tree::{Row, Text};
 use std::alloc::{AllocError, Global};
@@ -40,18 +40,32 @@ fn nothing(name: &Text) -> Result<TypeEntry, AllocError>
 }
 
 /// What a layer says over what those before it say.
-fn type_over(layer: &TypeEntry, old: TypeEntry) -> Result<TypeEntry, AllocError>
-    ensures { IfOk result (λ made. made ≡ type_over layer.now old) }
+fn type_over(layer: &TypeEntry, old: &TypeEntry) -> Result<TypeEntry, AllocError>
+    ensures { IfOk result (λ made. made ≡ type_over layer.now old.now) }
 {
+    let (caption, description) = both_later(
+        &layer.caption,
+        &old.caption,
+        &layer.description,
+        &old.description,
+    )?;
+    let (parent, pattern) = both_later(
+        &layer.parent,
+        &old.parent,
+        &layer.pattern,
+        &old.pattern,
+    )?;
+    let name = old.name.copy()?;
+    let values = later(&layer.values, &old.values)?;
     Ok(TypeEntry {
-        name: old.name,
-        caption: later(&layer.caption, old.caption)?,
-        description: later(&layer.description, old.description)?,
-        parent: later(&layer.parent, old.parent)?,
-        pattern: later(&layer.pattern, old.pattern)?,
+        name,
+        caption,
+        description,
+        parent,
+        pattern,
         range: layer.range.or(old.range),
         max_len: layer.max_len.or(old.max_len),
-        values: later(&layer.values, old.values)?,
+        values,
     })
 }
 
@@ -66,7 +80,7 @@ fn merged_type<B: Shows>(bundle: &B, name: &Text) -> Result<TypeEntry, AllocErro
         let Some(layer) = type_at(bundle, &cell, k) else {
             return Ok(entry);
         };
-        entry = type_over(layer, entry)?;
+        entry = type_over(layer, &entry)?;
     }
     Ok(entry)
 }

@@ -1,9 +1,9 @@
 // A row after one more entry.
 ghost use Rattle.std.specs.Prelude.{◌≡◌, IfOk, []};
-ghost use Rattle.std.specs.Option.{option_or};
 ghost use Rattle.ocsf_merge.specs.Layers.{layer_of, given};
 ghost use Rattle.ocsf_merge.specs.Fold.{over, nothing, row_of, mark_after, type_from_after, group_after, requirement_after};
 
+use crate::later::{both_later, later};
 use crate::members::merged_members;
 use crate::spoken::Spoken;
 use ocsf_raw::{Mark, ProfileFile, RawAttr};
@@ -43,31 +43,6 @@ fn nothing(alloc: Global, name: &Text) -> Result<Spoken, AllocError>
         mark_from,
         mark_is_key: false,
     })
-}
-
-/// The new value where there is one, else the old one.
-fn later<T: TryClone>(new: &Option<T>, old: &Option<T>) -> Result<Option<T>, AllocError>
-    ensures { IfOk result (λ made. made ≡ option_or new.now old.now) }
-{
-    match new {
-        Some(_) => new.try_clone(),
-        None => old.try_clone(),
-    }
-}
-
-/// Two texts, each the new one where there is one, else the old one.
-fn both_later(
-    first: &Option<Text>,
-    old_first: &Option<Text>,
-    second: &Option<Text>,
-    old_second: &Option<Text>,
-) -> Result<(Option<Text>, Option<Text>), AllocError>
-    ensures first { IfOk result (λ made. made.0 ≡ option_or first.now old_first.now) }
-    ensures second { IfOk result (λ made. made.1 ≡ option_or second.now old_second.now) }
-{
-    let made = later(first, old_first)?;
-    let other = later(second, old_second)?;
-    Ok((made, other))
 }
 
 fn mark_after(
