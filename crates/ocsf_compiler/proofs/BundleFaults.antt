@@ -24,7 +24,7 @@ use Rattle.ocsf_rules.specs.Verdict.{least_of_groups, fault_groups, bundle_fault
 use Rattle.ocsf_rule_laws.proofs.LeastOfItems.{least_is_of_items}
 use Rattle.ocsf_compiler.specs.declared.compile_error.CompileError.{CompileError}
 use Rattle.ocsf_compiler.specs.declared.compile_error.CompileError.TheVariants as error
-use Rattle.ocsf_compiler.specs.Building.{IsLeast, clash_in, large_fault}
+use Rattle.ocsf_compiler.specs.Building.{IsLeast, clash_in, large_fault, fault_in}
 use Rattle.ocsf_compiler.proofs.SoundItems.{items_by_key}
 use Rattle.ocsf_compiler.proofs.Clashes.{schema_least}
 
@@ -41,9 +41,13 @@ module _ (bundle : Stored) where
   abbrev pub items_least : Option Fault
   items_least = least_fault (filter_map (item_fault b) l.items)
 
-  pub of_files : (f : Fault) → HasOwn (Some f) → bundle_fault bundle ≡ Some f
+  of_files : (f : Fault) → HasOwn (Some f) → bundle_fault bundle ≡ Some f
   unfolding bundle_fault
   of_files f is = ap (λ o. option_or o (least_of_groups (fault_groups b l))) is
+
+  pub least_of_files : (e : CompileError) → IsLeast (own_fault bundle.files bundle.enabled) e → IsLeast (bundle_fault bundle) e
+  least_of_files (error.Fault f) is = of_files f is
+  least_of_files error.Memory is = tt
 
   of_rest : HasOwn None → bundle_fault bundle ≡ option_or items_least (least_fault (schema_faults b l))
   unfolding bundle_fault
@@ -69,7 +73,7 @@ module _ (bundle : Stored) where
 
   -- what the code asks of the schema is what is wrong with it
   pub of_compilation : (schema : SchemaParts) (pieces : List Item) → schema ≡ compilation bundle → pieces ≡ items b l
-      → option_or (least_fault (filter_map (clash_in schema.pieces) pieces)) (large_fault (length (schema_text schema))) ≡ least_fault (schema_faults b l)
+      → fault_in schema pieces ≡ least_fault (schema_faults b l)
   unfolding compilation schema_parts schema_faults
   of_compilation schema pieces is same =
       (λ i. option_or (least_fault (filter_map (clash_in (is i).pieces) (same i))) (large_fault (length (schema_text (is i)))))
@@ -83,3 +87,11 @@ carried P Q f (Err e) h = f e h
 pub wanting : {A : Type 0} (least : Option Fault) (r : Result A CompileError) → IsErrAnd r (λ made. made ≡ error.Memory) → IfErr r (IsLeast least)
 wanting least (Ok x) h = absurd h
 wanting least (Err e) h = subst (IsLeast least) (sym h) tt
+
+same_least : (least other : Option Fault) → other ≡ least → (e : CompileError) → IsLeast least e → IsLeast other e
+same_least least other same (error.Fault f) is = same ∙ is
+same_least least other same error.Memory is = tt
+
+-- where the least fault is another's, so is that of a refusal
+pub least_of : {A : Type 0} (least other : Option Fault) → other ≡ least → (r : Result A CompileError) → IfErr r (IsLeast least) → IfErr r (IsLeast other)
+least_of least other same r h = carried (IsLeast least) (IsLeast other) (same_least least other same) r h

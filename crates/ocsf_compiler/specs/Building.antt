@@ -1,12 +1,16 @@
 -- For private clauses: items one by one, and what is wrong with what they make together.
-use Rattle.std.specs.Prelude.{◌≡◌, ℕ, Bool, false, List, codes, decimal, nat_lt, Option, Some, None, ⊤}
-use Rattle.std.specs.Option.{option_map_or, option_and_then}
+use Rattle.std.specs.Prelude.{◌≡◌, ℕ, Bool, false, List, length, codes, decimal, nat_lt, Option, Some, None, ⊤}
+use Rattle.std.specs.Option.{option_map_or, option_and_then, option_or}
+use Rattle.std.specs.List.{filter_map}
+use Rattle.ocsf_tree.specs.LeastFault.{least_fault}
 use Rattle.ocsf_tree.specs.declared.fault.Fault.{Fault}
 use Rattle.ocsf_tree.specs.declared.fault.Code.TheVariants as code
 use Rattle.ocsf_tree.specs.declared.key.Key.{Key}
 use Rattle.ocsf_tree.specs.Key.{key_text}
 use Rattle.ocsf_schema.specs.declared.records.Item.{Item}
 use Rattle.ocsf_schema.specs.Lookups.{class_at}
+use Rattle.ocsf_schema.specs.Schema.{schema_text}
+use Rattle.ocsf_schema.specs.declared.parts.SchemaParts.{SchemaParts}
 use Rattle.ocsf_bundle.specs.Looks.{Looks}
 use Rattle.ocsf_bundle.specs.BundleFaults.{fault_if}
 use Rattle.ocsf_rules.specs.Compiled.{item}
@@ -40,3 +44,7 @@ clash_in items i = option_and_then (clash_of items i) i.class_uid
 
 abbrev pub large_fault : ℕ → Option Fault
 large_fault bytes = fault_if (nat_lt max_print bytes) (fault code.TooLarge (codes "bundle") (codes "print"))
+
+-- the least fault of a schema as a whole, of which these are the items: of its classes' numbers, else of its print's length
+abbrev pub fault_in : SchemaParts → List Item → Option Fault
+fault_in schema items = option_or (least_fault (filter_map (clash_in schema.pieces) items)) (large_fault (length (schema_text schema)))

@@ -2,11 +2,12 @@
 ghost use Rattle.std.specs.Prelude.{◌≡◌, ◌+◌, None, IfOk, IfErr, OnOk, All, length};
 ghost use Rattle.ocsf_tree.specs.ByName.{IsByName};
 ghost use Rattle.ocsf_raw.specs.Ordered.{IsTypeValid};
+ghost use Rattle.ocsf_bundle.specs.BundleFaults.{own_fault};
 ghost use Rattle.ocsf_bundle.specs.Listing.{listing};
 ghost use Rattle.ocsf_rules.specs.Compilation.{IsCompilation};
-ghost use Rattle.ocsf_rules.specs.Verdict.{types_of, bundle_fault, IsFaultless, IsVerdict};
-ghost use Rattle.ocsf_compiler.specs.Building.{IsLeast};
-ghost use Rattle.ocsf_compiler.specs.Compiles.{IsRefusedFor};
+ghost use Rattle.ocsf_rules.specs.Verdict.{types_of, bundle_fault, IsFaultless, IsPatternVerdict, IsVerdict};
+ghost use Rattle.ocsf_compiler.specs.Building.{IsLeast, fault_in};
+ghost use Rattle.ocsf_compiler.specs.Compiles.{IsRefusedFor, IsPatternRefusal};
 
 use crate::compile_error::CompileError;
 use crate::items::items_of;
@@ -15,10 +16,47 @@ use crate::patterns::pattern_fault;
 use crate::schema_fault::schema_fault;
 use ocsf_bundle::Bundle;
 use ocsf_raw::TypeEntry;
-use ocsf_schema::{Schema, Steps};
-use ocsf_tree::TryClone;
+use ocsf_schema::{Piece, Schema, Steps};
+use ocsf_tree::{Shared, TryClone};
 use std::alloc::Global;
 use std::sync::ledger::Ledger;
+
+/// Refuses a bundle whose files as a whole, or whose types, have a fault.
+fn sound_files(bundle: &Bundle) -> Result<(), CompileError>
+    ensures sound { OnOk result (own_fault bundle.now.files bundle.now.enabled ≡ None) }
+    ensures fault { IfErr result (IsLeast (own_fault bundle.now.files bundle.now.enabled)) }
+{
+    match bundle.own_fault()? {
+        Some(fault) => Err(CompileError::Fault(fault)),
+        None => Ok(()),
+    }
+}
+
+/// Refuses a schema that has a fault as a whole.
+fn sound_schema(
+    alloc: Global,
+    schema: &Schema,
+    pieces: &[Shared<Piece>],
+) -> Result<(), CompileError>
+    ensures sound { OnOk result (fault_in schema.now pieces.now ≡ None) }
+    ensures fault { IfErr result (IsLeast (fault_in schema.now pieces.now)) }
+{
+    match schema_fault(alloc, schema, pieces)? {
+        Some(fault) => Err(CompileError::Fault(fault)),
+        None => Ok(()),
+    }
+}
+
+/// Refuses types of which one has a pattern that `regex` doesn't take.
+fn sound_patterns(alloc: Global, types: &[TypeEntry]) -> Result<(), CompileError>
+    ensures sound { OnOk result (IsPatternVerdict types.now None) }
+    ensures fault { IfErr result (IsPatternRefusal types.now) }
+{
+    match pattern_fault(alloc, types)? {
+        Some(fault) => Err(CompileError::Fault(fault)),
+        None => Ok(()),
+    }
+}
 
 /// The schema of a bundle whose listed types, merged, are these. Patterns are passed by.
 fn schema_of<L: Ledger>(
@@ -35,17 +73,13 @@ fn schema_of<L: Ledger>(
     ensures fault { IfErr result (IsLeast (bundle_fault bundle.now)) }
     ensures steps { OnOk result (steps.new ≡ steps.old + length (listing bundle.now).items) }
 {
-    if let Some(fault) = bundle.own_fault()? {
-        return Err(CompileError::Fault(fault));
-    }
+    sound_files(bundle)?;
     let pieces = items_of(alloc, bundle, steps)?;
     let items = pieces.try_clone()?;
     let parts = parts_of(alloc, bundle, types, pieces)?;
     let schema = Schema::of(alloc, parts)?;
-    match schema_fault(alloc, &schema, items.as_slice())? {
-        Some(fault) => Err(CompileError::Fault(fault)),
-        None => Ok(schema),
-    }
+    sound_schema(alloc, &schema, items.as_slice())?;
+    Ok(schema)
 }
 
 /// The schema that the bundle is compiled to, from its files alone. It is refused by its least fault,
@@ -63,8 +97,6 @@ pub fn compile<L: Ledger>(
 {
     let types = types_of(alloc, bundle)?;
     let schema = schema_of(alloc, bundle, types.as_slice(), steps)?;
-    match pattern_fault(alloc, types.as_slice())? {
-        Some(fault) => Err(CompileError::Fault(fault)),
-        None => Ok(schema),
-    }
+    sound_patterns(alloc, types.as_slice())?;
+    Ok(schema)
 }

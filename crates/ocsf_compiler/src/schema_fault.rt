@@ -1,11 +1,10 @@
 // What is wrong with a schema as a whole.
-ghost use Rattle.std.specs.Prelude.{◌≡◌, ◌++◌, IfOk, length, decimal, filter_map};
-ghost use Rattle.std.specs.Option.{option_or};
+ghost use Rattle.std.specs.Prelude.{◌≡◌, IfOk, length, decimal, filter_map};
 ghost use Rattle.ocsf_tree.specs.LeastFault.{least_fault};
 ghost use Rattle.ocsf_schema.specs.Schema.{schema_text};
 ghost use Rattle.ocsf_rules.specs.SchemaFaults.{comes_before};
 ghost use Rattle.ocsf_rules.specs.ItemFaults.{fault};
-ghost use Rattle.ocsf_compiler.specs.Building.{is_taken_in, clash_of, clash_in, large_fault};
+ghost use Rattle.ocsf_compiler.specs.Building.{is_taken_in, clash_of, clash_in, large_fault, fault_in};
 
 use ocsf_bundle::lesser_of;
 use ocsf_schema::{Item, Piece, Schema};
@@ -105,8 +104,7 @@ pub fn schema_fault(
     schema: &Schema,
     pieces: &[Shared<Piece>],
 ) -> Result<Option<Fault>, AllocError>
-    ensures { IfOk result (λ made. made
-        ≡ option_or (least_fault (filter_map (clash_in schema.now.pieces) pieces.now)) (large_fault (length (schema_text schema.now)))) }
+    ensures { IfOk result (λ made. made ≡ fault_in schema.now pieces.now) }
 {
     match uid_clash(alloc, schema, pieces)? {
         Some(fault) => Ok(Some(fault)),

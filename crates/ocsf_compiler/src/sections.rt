@@ -12,7 +12,7 @@ ghost use Rattle.ocsf_compiler.specs.Sections.{cell_of, part_tree, first_tree, m
 use ocsf_bundle::{Cell, Part, Shows};
 use ocsf_kind::category_uid;
 use ocsf_raw::{CategoryEntry, ExtFile, ProfileFile, RawAttr};
-use ocsf_schema::{put_field, word_field, words_field};
+use ocsf_schema::{put_field, put_word, put_words};
 use ocsf_tree::{Member, Row, Text, Tree};
 use std::alloc::{AllocError, Global};
 
@@ -40,12 +40,8 @@ fn category_tree(alloc: Global, extension: u32, entry: &CategoryEntry) -> Result
 {
     let uid = category_uid(extension, entry.uid);
     let mut members = Row::new(alloc);
-    put_field(&mut members, "caption", words_field(&entry.caption)?)?;
-    put_field(
-        &mut members,
-        "description",
-        words_field(&entry.description)?,
-    )?;
+    put_words(&mut members, "caption", &entry.caption)?;
+    put_words(&mut members, "description", &entry.description)?;
     put_field(&mut members, "uid", Some(Tree::Whole(i128::from(uid))))?;
     Ok(Tree::Members(members))
 }
@@ -56,7 +52,7 @@ fn other_tree(alloc: Global) -> Result<Tree, AllocError>
     ensures valid { IfOk result IsValid }
 {
     let mut members = Row::new(alloc);
-    put_field(&mut members, "caption", word_field(alloc, "Uncategorized")?)?;
+    put_word(&mut members, "caption", "Uncategorized")?;
     put_field(&mut members, "uid", Some(Tree::Whole(0)))?;
     Ok(Tree::Members(members))
 }
@@ -67,9 +63,9 @@ fn extension_tree(alloc: Global, file: &ExtFile) -> Result<Tree, AllocError>
 {
     let uid = file.uid;
     let mut members = Row::new(alloc);
-    put_field(&mut members, "caption", words_field(&file.caption)?)?;
+    put_words(&mut members, "caption", &file.caption)?;
     put_field(&mut members, "uid", Some(Tree::Whole(i128::from(uid))))?;
-    put_field(&mut members, "version", words_field(&file.version)?)?;
+    put_words(&mut members, "version", &file.version)?;
     Ok(Tree::Members(members))
 }
 
@@ -90,8 +86,8 @@ fn profile_tree(alloc: Global, file: &ProfileFile) -> Result<Tree, AllocError>
     let names = entry_names(alloc, file.attributes.as_slice())?;
     let mut members = Row::new(alloc);
     put_field(&mut members, "attributes", Some(names))?;
-    put_field(&mut members, "caption", words_field(&file.caption)?)?;
-    put_field(&mut members, "description", words_field(&file.description)?)?;
+    put_words(&mut members, "caption", &file.caption)?;
+    put_words(&mut members, "description", &file.description)?;
     Ok(Tree::Members(members))
 }
 

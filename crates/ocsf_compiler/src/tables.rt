@@ -9,7 +9,7 @@ ghost use Rattle.ocsf_schema.specs.Print.{number};
 ghost use Rattle.ocsf_rules.specs.PrintedSchema.{member, entry_tree, span_tree, type_tree};
 
 use ocsf_raw::{DictEntry, TypeEntry};
-use ocsf_schema::{enumeration_field, flag_field, put_field, words_field};
+use ocsf_schema::{enumeration_field, flag_field, put_field, put_words};
 use ocsf_tree::{Member, Row, Span, Tree, TryClone};
 use std::alloc::{AllocError, Global};
 
@@ -18,19 +18,18 @@ fn entry_tree(alloc: Global, entry: &DictEntry) -> Result<Tree, AllocError>
     ensures tree { IfOk result (λ made. made ≡ entry_tree entry.now) }
     ensures valid { IfOk result IsValid }
 {
-    let members_field = enumeration_field(alloc, entry.members.as_slice())?;
     let is_array = entry.is_array.unwrap_or(false);
     let mut members = Row::new(alloc);
-    put_field(&mut members, "caption", words_field(&entry.caption)?)?;
+    put_words(&mut members, "caption", &entry.caption)?;
+    put_words(&mut members, "description", &entry.description)?;
     put_field(
         &mut members,
-        "description",
-        words_field(&entry.description)?,
+        "enum",
+        enumeration_field(alloc, entry.members.as_slice())?,
     )?;
-    put_field(&mut members, "enum", members_field)?;
     put_field(&mut members, "is_array", flag_field(is_array))?;
-    put_field(&mut members, "sibling", words_field(&entry.sibling)?)?;
-    put_field(&mut members, "type", words_field(&entry.type_name)?)?;
+    put_words(&mut members, "sibling", &entry.sibling)?;
+    put_words(&mut members, "type", &entry.type_name)?;
     Ok(Tree::Members(members))
 }
 
@@ -70,21 +69,14 @@ fn type_tree(alloc: Global, entry: &TypeEntry) -> Result<Tree, AllocError>
     ensures tree { IfOk result (λ made. made ≡ type_tree entry.now) }
     ensures valid { IfOk result IsValid }
 {
-    let max_len = max_len_of(entry);
-    let range = range_of(alloc, entry.range)?;
-    let values = values_of(&entry.values)?;
     let mut members = Row::new(alloc);
-    put_field(&mut members, "caption", words_field(&entry.caption)?)?;
-    put_field(
-        &mut members,
-        "description",
-        words_field(&entry.description)?,
-    )?;
-    put_field(&mut members, "max_len", max_len)?;
-    put_field(&mut members, "range", range)?;
-    put_field(&mut members, "regex", words_field(&entry.pattern)?)?;
-    put_field(&mut members, "type", words_field(&entry.parent)?)?;
-    put_field(&mut members, "values", values)?;
+    put_words(&mut members, "caption", &entry.caption)?;
+    put_words(&mut members, "description", &entry.description)?;
+    put_field(&mut members, "max_len", max_len_of(entry))?;
+    put_field(&mut members, "range", range_of(alloc, entry.range)?)?;
+    put_words(&mut members, "regex", &entry.pattern)?;
+    put_words(&mut members, "type", &entry.parent)?;
+    put_field(&mut members, "values", values_of(&entry.values)?)?;
     Ok(Tree::Members(members))
 }
 

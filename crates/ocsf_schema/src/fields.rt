@@ -22,8 +22,28 @@ pub fn put_field(
     Ok(())
 }
 
+/// Adds the member that is a text, where the text is given.
+pub fn put_words(
+    members: &mut Row<Member>,
+    name: &str,
+    text: &Option<Text>,
+) -> Result<(), AllocError>
+    ensures { OnOk result (members.new ≡ members.old ++ shown (name.now, words text.now)) }
+{
+    let value = words_field(text)?;
+    put_field(members, name, value)
+}
+
+/// Adds the member that is this text.
+pub fn put_word(members: &mut Row<Member>, name: &str, text: &str) -> Result<(), AllocError>
+    ensures { OnOk result (members.new ≡ members.old ++ shown (name.now, Some (tree.Words text.now))) }
+{
+    let value = word_field(members.allocator(), text)?;
+    put_field(members, name, value)
+}
+
 /// The value of a member that is a text, where the text is given.
-pub fn words_field(text: &Option<Text>) -> Result<Option<Tree>, AllocError>
+fn words_field(text: &Option<Text>) -> Result<Option<Tree>, AllocError>
     ensures { IfOk result (λ made. made ≡ words text.now) }
 {
     match text {
@@ -33,7 +53,7 @@ pub fn words_field(text: &Option<Text>) -> Result<Option<Tree>, AllocError>
 }
 
 /// The value of a member that is this text.
-pub fn word_field(alloc: Global, text: &str) -> Result<Option<Tree>, AllocError>
+fn word_field(alloc: Global, text: &str) -> Result<Option<Tree>, AllocError>
     ensures { IfOk result (λ made. made ≡ Some (tree.Words text.now)) }
 {
     Ok(Some(Tree::Words(Text::of(alloc, text)?)))
@@ -70,16 +90,8 @@ fn enum_member_of(alloc: Global, member: &EnumMember) -> Result<Tree, AllocError
     ensures { IfOk result (λ made. made ≡ enum_member_tree member.now) }
 {
     let mut members = Row::new(alloc);
-    put_field(
-        &mut members,
-        "caption",
-        word_field(alloc, member.caption.as_str())?,
-    )?;
-    put_field(
-        &mut members,
-        "description",
-        words_field(&member.description)?,
-    )?;
+    put_word(&mut members, "caption", member.caption.as_str())?;
+    put_words(&mut members, "description", &member.description)?;
     Ok(Tree::Members(members))
 }
 

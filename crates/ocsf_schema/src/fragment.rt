@@ -3,7 +3,7 @@ ghost use Rattle.std.specs.Prelude.{◌≡◌, ◌<◌, ◌^◌, IfOk, OnOk, IfS
 ghost use Rattle.ocsf_schema.specs.Print.{words, number, requirement_text, type_text, object_key, attribute_tree, attribute_member, constraints, fragment_tree};
 
 use crate::fields::{
-    enumeration_field, flag_field, put_field, texts_field, word_field, words_field,
+    enumeration_field, flag_field, put_field, put_word, put_words, texts_field,
 };
 use crate::{Attr, Item, Target};
 use ocsf_tree::{Member, Requirement, Row, Tree};
@@ -61,28 +61,20 @@ fn attribute_of(alloc: Global, attr: &Attr) -> Result<Tree, AllocError>
     ensures { IfOk result (λ made. made ≡ attribute_tree attr.now) }
 {
     let mut members = Row::new(alloc);
-    put_field(&mut members, "caption", words_field(&attr.caption)?)?;
-    put_field(&mut members, "description", words_field(&attr.description)?)?;
+    put_words(&mut members, "caption", &attr.caption)?;
+    put_words(&mut members, "description", &attr.description)?;
     put_field(
         &mut members,
         "enum",
         enumeration_field(alloc, attr.members.as_slice())?,
     )?;
-    put_field(&mut members, "group", words_field(&attr.group)?)?;
+    put_words(&mut members, "group", &attr.group)?;
     put_field(&mut members, "is_array", flag_field(attr.is_array))?;
     put_field(&mut members, "object", object_of(&attr.target)?)?;
-    put_field(&mut members, "profile", words_field(&attr.profile)?)?;
-    put_field(
-        &mut members,
-        "requirement",
-        word_field(alloc, requirement_of(attr.requirement))?,
-    )?;
-    put_field(&mut members, "sibling", words_field(&attr.sibling)?)?;
-    put_field(
-        &mut members,
-        "type",
-        word_field(alloc, type_of(&attr.target))?,
-    )?;
+    put_words(&mut members, "profile", &attr.profile)?;
+    put_word(&mut members, "requirement", requirement_of(attr.requirement))?;
+    put_words(&mut members, "sibling", &attr.sibling)?;
+    put_word(&mut members, "type", type_of(&attr.target))?;
     Ok(Tree::Members(members))
 }
 
@@ -127,13 +119,13 @@ pub fn fragment_of(alloc: Global, item: &Item) -> Result<Tree, AllocError>
     let mut members = Row::new(alloc);
     let attributes = Tree::Members(attributes_of(alloc, item.attrs.as_slice())?);
     put_field(&mut members, "attributes", Some(attributes))?;
-    put_field(&mut members, "caption", words_field(&item.caption)?)?;
-    put_field(&mut members, "category", words_field(&item.category)?)?;
+    put_words(&mut members, "caption", &item.caption)?;
+    put_words(&mut members, "category", &item.category)?;
     put_field(&mut members, "category_uid", category_uid_of(item))?;
     put_field(&mut members, "class_uid", class_uid_of(item))?;
     put_field(&mut members, "constraints", constraints_of(alloc, item)?)?;
-    put_field(&mut members, "description", words_field(&item.description)?)?;
-    put_field(&mut members, "extends", words_field(&item.parent)?)?;
+    put_words(&mut members, "description", &item.description)?;
+    put_words(&mut members, "extends", &item.parent)?;
     put_field(&mut members, "hidden", flag_field(item.hidden))?;
     put_field(
         &mut members,

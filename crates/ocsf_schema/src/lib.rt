@@ -12,7 +12,7 @@ mod rope;
 mod schema;
 mod steps;
 
-pub use fields::{enumeration_field, flag_field, put_field, texts_field, word_field, words_field};
+pub use fields::{enumeration_field, flag_field, put_field, put_word, put_words, texts_field};
 pub use parts::SchemaParts;
 pub use piece::Piece;
 pub use records::{Attr, Base, Item, Kind, Limit, Target};

@@ -1,6 +1,7 @@
 // An item with its printed fragment.
 ghost use Rattle.std.specs.Prelude.{◌≡◌, ◌+◌, ℕ, IfOk, All};
 ghost use Rattle.ocsf_tree.specs.ByName.{IsByName};
+ghost use Rattle.ocsf_schema.specs.Print.{fragment};
 
 use crate::fragment::fragment_of;
 use crate::{Item, Steps};
@@ -30,6 +31,17 @@ impl Model for Piece {
     ghost invariant = { λ piece. (piece.text ≡ fragment piece.item) × IsInOrder piece.item };
 }
 
+/// The fragment of the item, printed.
+fn printed(alloc: Global, item: &Item) -> Result<Shared<Row<u8>>, AllocError>
+    requires attributes { IsByName (λ attr. attr.name) item.now.attrs }
+    requires members { All (λ attr. IsByName (λ member. member.key) attr.members) item.now.attrs }
+    ensures { IfOk result (λ text. text ≡ fragment item.now) }
+{
+    let tree = fragment_of(alloc, item)?;
+    let text = print(alloc, &tree)?;
+    Shared::new(alloc, text)
+}
+
 impl Piece {
     ghost use Rattle.ocsf_schema.specs.Lookups.{IsInOrder};
     ghost use Rattle.ocsf_schema.specs.Print.{fragment};
@@ -46,8 +58,7 @@ impl Piece {
         ensures step { steps.new ≡ steps.old + 1 }
     {
         steps.tick();
-        let tree = fragment_of(alloc, &item)?;
-        let text = Shared::new(alloc, print(alloc, &tree)?)?;
+        let text = printed(alloc, &item)?;
         Ok(Piece { item, text })
     }
 

@@ -6,16 +6,16 @@ use Rattle.ocsf_bundle.specs.BundleFaults.{own_fault}
 use Rattle.ocsf_rules.specs.Compilation.{compilation}
 use Rattle.ocsf_rules.specs.PrintedSchema.{items}
 use Rattle.ocsf_rules.specs.Verdict.{bundle_fault}
-use Rattle.ocsf_compiler.specs.Building.{IsLeast}
-use Rattle.ocsf_compiler.proofs.BundleFaults.{of_files, of_schema, items_least, least_of_items, by_key, whole, of_compilation, carried, wanting}
+use Rattle.ocsf_compiler.specs.Building.{IsLeast, fault_in}
+use Rattle.ocsf_compiler.proofs.BundleFaults.{of_schema, items_least, least_of_files, least_of_items, by_key, whole, of_compilation, carried, least_of}
 use Rattle.ocsf_compiler.proofs.compiling.schema_of.Goals as goal
 
-pub returns-in-Some-clause-fault : goal.returns-in-Some-clause-fault
-returns-in-Some-clause-fault g c = of_files c.args.bundle.now c.in-Some.fault (sym c.in_ok-fault.ensures ∙ c.in-Some.is)
-
-pub returns-in_err-fault-2-clause-fault : goal.returns-in_err-fault-2-clause-fault
-returns-in_err-fault-2-clause-fault g c =
-    wanting (bundle_fault c.args.bundle.now) c.from_residual-in_err-fault-2.result c.from_residual-in_err-fault-2.ensures.1
+pub returns-in_err-sound_files-clause-fault : goal.returns-in_err-sound_files-clause-fault
+returns-in_err-sound_files-clause-fault g c =
+    let bundle = c.args.bundle.now in
+    let own = own_fault bundle.files bundle.enabled in
+    let least : IfErr c.from_residual-in_err-sound_files.result (IsLeast own) = search rules in
+    carried (IsLeast own) (IsLeast (bundle_fault bundle)) (least_of_files bundle) c.from_residual-in_err-sound_files.result least
 
 pub returns-in_err-pieces-clause-fault : goal.returns-in_err-pieces-clause-fault
 returns-in_err-pieces-clause-fault g c =
@@ -31,17 +31,19 @@ of-requires-clause-pieces g c =
     ap (λ p. p.pieces) c.in_ok-parts.ensures.parts ∙ c.in_ok-pieces.ensures.items in
     subst IsByKey (sym is) (by_key bundle)
 
-pub returns-in-Some-2-clause-fault : goal.returns-in-Some-2-clause-fault
-returns-in-Some-2-clause-fault g c =
+pub returns-in_err-sound_schema-clause-fault : goal.returns-in_err-sound_schema-clause-fault
+returns-in_err-sound_schema-clause-fault g c =
     let bundle = c.args.bundle.now in
     let none : own_fault bundle.files bundle.enabled ≡ None = search rules in
     let is : c.in_ok-schema.schema ≡ compilation bundle =
     c.in_ok-schema.ensures ∙ c.in_ok-parts.ensures.parts ∙ whole bundle c.in_ok-pieces.pieces c.in_ok-pieces.ensures.items in
     let copied : c.as_slice.result.now ≡ c.in_ok-pieces.pieces = search rules in
+    let here = fault_in c.in_ok-schema.schema c.as_slice.result.now in
+    let least : IfErr c.from_residual-in_err-sound_schema.result (IsLeast here) = search rules in
+    let same : bundle_fault bundle ≡ here =
     of_schema bundle none c.in_ok-pieces.ensures.sound
-    ∙ sym (of_compilation bundle c.in_ok-schema.schema c.as_slice.result.now is (copied ∙ c.in_ok-pieces.ensures.items))
-    ∙ sym c.in_ok-fault-2.ensures
-    ∙ c.in-Some-2.is
+    ∙ sym (of_compilation bundle c.in_ok-schema.schema c.as_slice.result.now is (copied ∙ c.in_ok-pieces.ensures.items)) in
+    least_of here (bundle_fault bundle) same c.from_residual-in_err-sound_schema.result least
 
 pub returns-clause-schema : goal.returns-clause-schema
 returns-clause-schema g c =
@@ -56,5 +58,4 @@ returns-clause-faultless g c =
     let copied : c.as_slice.result.now ≡ c.in_ok-pieces.pieces = search rules in
     of_schema bundle none c.in_ok-pieces.ensures.sound
     ∙ sym (of_compilation bundle c.in_ok-schema.schema c.as_slice.result.now is (copied ∙ c.in_ok-pieces.ensures.items))
-    ∙ sym c.in_ok-fault-2.ensures
-    ∙ c.in-None.is
+    ∙ c.in_ok-sound_schema.ensures.sound

@@ -14,13 +14,11 @@ returns-clause-tree c =
     let names : c.in_ok-names.names ≡ list = search rules in
     let joined = three_joined (shown (codes "attributes", Some list)) (shown (codes "caption", words file.caption)) (shown (codes "description", words file.description)) in
     rw (
-      c.in_ok-put_field-3.ensures.ok,
-      c.in_ok-put_field-2.ensures.ok,
+      c.in_ok-put_words-2.ensures,
+      c.in_ok-put_words.ensures,
       c.in_ok-put_field.ensures.ok,
       c.new-members.ensures,
       names,
-      c.in_ok-words_field.ensures,
-      c.in_ok-words_field-2.ensures,
     )
     (ap tree.Members joined)
 
@@ -31,12 +29,10 @@ returns-clause-valid c =
     let names : c.in_ok-names.names ≡ list = search rules in
     let joined = three_joined (shown (codes "attributes", Some list)) (shown (codes "caption", words file.caption)) (shown (codes "description", words file.description)) in
     rw (
-      c.in_ok-put_field-3.ensures.ok,
-      c.in_ok-put_field-2.ensures.ok,
+      c.in_ok-put_words-2.ensures,
+      c.in_ok-put_words.ensures,
       c.in_ok-put_field.ensures.ok,
       c.new-members.ensures,
       names,
-      c.in_ok-words_field.ensures,
-      c.in_ok-words_field-2.ensures,
     )
     (subst IsValid (sym (ap tree.Members joined)) (profile_valid file))

@@ -7,5 +7,5 @@ use Rattle.ocsf_compiler.proofs.tables.entry_tree.Goals as goal
 
 pub returns-clause-valid : goal.returns-clause-valid
 returns-clause-valid c =
-    let is : tree.Members c.put_field-6.new.members ≡ entry_tree c.args.entry.now = search rules in
+    let is : tree.Members c.put_words-4.new.members ≡ entry_tree c.args.entry.now = search rules in
     subst IsValid (sym is) (entry_valid c.args.entry.now c.requires)

@@ -8,6 +8,6 @@ use Rattle.ocsf_compiler.proofs.tables.type_tree.Goals as goal
 
 pub returns-clause-valid : goal.returns-clause-valid
 returns-clause-valid c =
-    let is : tree.Members c.put_field-7.new.members ≡ type_tree c.args.entry.now = grind (arith, common_steps) in
+    let is : tree.Members c.put_field-3.new.members ≡ type_tree c.args.entry.now = grind (arith, common_steps) in
     let fits : IfSome c.args.entry.now.max_len (λ n. n < 2 ^ 64) = search rules in
     subst IsValid (sym is) (type_valid c.args.entry.now c.requires fits)
