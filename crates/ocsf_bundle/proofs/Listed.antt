@@ -109,7 +109,7 @@ module _ (f : ActiveFile → List (List ℕ)) where
             ∙ sym (at_name-append (λ n. n) q (f x) (f y ++ flat_map f ys))
       ]
 
-  found_layers : (q : List ℕ) (xs : List ActiveFile) → among q (flat_map f (in_layers xs)) ≡ among q (flat_map f xs)
+  pub found_layers : (q : List ℕ) (xs : List ActiveFile) → among q (flat_map f (in_layers xs)) ≡ among q (flat_map f xs)
   found_layers q [] = refl
   found_layers q (x ∷ xs) =
       found_into q x (in_layers xs)

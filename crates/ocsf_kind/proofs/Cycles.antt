@@ -17,7 +17,7 @@ IsOpen types name = is_end types name ≡ false
 one_less : (n : ℕ) → suc n - 1 ≡ n
 one_less n = omega arith
 
-last_name-goes : (n : ℕ) (types : List TypeEntry) (name : List ℕ) → IsOpen types name → last_name (way (suc n) types name) ≡ last_name (way n types (parent_of types name))
+pub last_name-goes : (n : ℕ) (types : List TypeEntry) (name : List ℕ) → IsOpen types name → last_name (way (suc n) types name) ≡ last_name (way n types (parent_of types name))
 last_name-goes n types name e =
     ap last_name (way-goes (suc n) types name (omega arith) e)
     ∙ last_name-way (suc n - 1) types name (parent_of types name)

@@ -14,3 +14,7 @@ pub mod Sample
 pub mod CompilationExamples
 pub mod LeastOfItems
 pub mod OneVerdict
+pub mod TypesAgree
+pub mod Faultless
+pub mod Closed
+pub mod ClassNumbers

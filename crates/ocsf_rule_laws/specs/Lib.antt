@@ -1,3 +1,4 @@
 pub mod LookLaws
 pub mod VerdictLaws
 pub mod ExistenceLaws
+pub mod ClosedLaws

@@ -3,10 +3,15 @@
 //! contract is a law.
 #![tactic(auto)]
 
+mod closed_laws;
 mod existence_laws;
 mod look_laws;
 mod verdict_laws;
 
+pub use closed_laws::{
+    a_schema_has_every_kind, attributes_lead_into_the_schema, classes_are_found_by_number,
+    hidden_items_have_no_number, types_and_kinds_agree,
+};
 pub use existence_laws::{
     a_bundle_has_a_verdict, a_tree_has_a_first_fault_or_none, a_tree_says_an_edit_or_fails,
     an_edit_leads_to_files_or_fails,
