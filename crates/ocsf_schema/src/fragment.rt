@@ -1,12 +1,12 @@
 // The printed fragment of an item, as a tree.
 ghost use Rattle.std.specs.Prelude.{◌≡◌, ◌<◌, ◌^◌, IfOk, OnOk, IfSome, map};
-ghost use Rattle.ocsf_schema.specs.Print.{words, number, requirement_text, type_text, object_key, attribute_tree, attribute_member, constraints, fragment_tree};
+ghost use Rattle.ocsf_schema.specs.Print.{words, number, type_text, object_key, attribute_tree, attribute_member, constraints, fragment_tree};
 
 use crate::fields::{
     enumeration_field, flag_field, put_field, texts_field, word_field, words_field,
 };
 use crate::{Attr, Item, Target};
-use ocsf_tree::{Member, Requirement, Row, Tree};
+use ocsf_tree::{Member, Row, Tree};
 use std::alloc::{AllocError, Global};
 
 fn category_uid_of(item: &Item) -> Option<Tree>
@@ -26,16 +26,6 @@ fn class_uid_of(item: &Item) -> Option<Tree>
     match item.class_uid {
         Some(uid) => Some(Tree::Whole(i128::from(uid))),
         None => None,
-    }
-}
-
-fn requirement_of(requirement: Requirement) -> &'static str
-    ensures { result.now ≡ requirement_text requirement }
-{
-    match requirement {
-        Requirement::Required => "required",
-        Requirement::Recommended => "recommended",
-        Requirement::Optional => "optional",
     }
 }
 
@@ -75,7 +65,7 @@ fn attribute_of(alloc: Global, attr: &Attr) -> Result<Tree, AllocError>
     put_field(
         &mut members,
         "requirement",
-        word_field(alloc, requirement_of(attr.requirement))?,
+        word_field(alloc, attr.requirement.as_str())?,
     )?;
     put_field(&mut members, "sibling", words_field(&attr.sibling)?)?;
     put_field(

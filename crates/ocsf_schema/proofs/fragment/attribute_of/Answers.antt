@@ -23,7 +23,7 @@ returns c =
       c.in_ok-object_of.ensures,
       c.in_ok-words_field-4.ensures,
       c.in_ok-word_field.ensures,
-      c.requirement_of.ensures,
+      c.as_str.ensures,
       c.in_ok-words_field-5.ensures,
       c.in_ok-word_field-2.ensures,
       c.type_of.ensures,
