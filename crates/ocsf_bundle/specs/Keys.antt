@@ -1,5 +1,5 @@
 -- The keys that files give.
-use Rattle.std.specs.Prelude.{ℕ, ◌&&◌, not, List, ◌∷◌, ◌++◌, Bool, true, if◌then◌else◌, Option, Some, None, is_some, map, filter}
+use Rattle.std.specs.Prelude.{ℕ, ◌&&◌, not, List, ◌∷◌, ◌++◌, Bool, true, false, if◌then◌else◌, Option, Some, None, is_some, map, filter}
 use Rattle.std.specs.Option.{option_and_then, option_map, option_map_or}
 use Rattle.std.specs.List.{filter_map}
 use Rattle.std.specs.Str.{bytes_eq}

@@ -1,5 +1,5 @@
 -- The profiles of an event, and the attributes that are in force.
-use Rattle.std.specs.Prelude.{ℕ, Bool, true, List, [], filter_map, codes, Option, Some, None, unwrap_or, is_some}
+use Rattle.std.specs.Prelude.{ℕ, Bool, true, List, [], filter_map, codes, Option, unwrap_or, is_some}
 use Rattle.std.specs.Option.{option_map_or, option_and_then}
 use Rattle.ocsf_tree.specs.declared.tree.Tree.{Tree, out-Tree}
 use Rattle.ocsf_tree.specs.Lookup.{text_of, items_of, member_at}

@@ -7,7 +7,6 @@ use Rattle.std.specs.Char.{is_ascii_digit}
 use Rattle.std.specs.Ordering.{is_lt}
 use Rattle.ocsf_tree.specs.declared.key.Key.{Key}
 use Rattle.ocsf_tree.specs.declared.fault.Fault.{Fault}
-use Rattle.ocsf_tree.specs.declared.fault.Code.{Code}
 use Rattle.ocsf_tree.specs.declared.fault.Code.TheVariants as code
 use Rattle.ocsf_tree.specs.declared.attribute.EnumMember.{EnumMember}
 use Rattle.ocsf_tree.specs.ByName.{text_cmp, at_name}

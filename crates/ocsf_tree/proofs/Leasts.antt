@@ -115,11 +115,10 @@ module _ {X : Type 0} {before : X → X → Bool} (o : IsStrictWeakOrder before)
       let b = best.0 in
       let is : get_or (x ∷ xs) b x ≡ best_of before x xs = best.2 in
       let there : Contains (x ∷ xs) (get_or (x ∷ xs) b x) = Contains-get_or (x ∷ xs) b x best.1.0 in
-      subst (IsLeastBy before (x ∷ xs)) (sym (after_best x xs))
-      (
+      subst (IsLeastBy before (x ∷ xs)) (sym (after_best x xs)) (
         subst (Contains (x ∷ xs)) is there,
         All-from_get_or (λ y. before y (best_of before x xs) ≡ false) (x ∷ xs) x
-        (λ k h. subst (λ y. before (get_or (x ∷ xs) k x) y ≡ false) is (best.1.1 k x h)),
+            (λ k h. subst (λ y. before (get_or (x ∷ xs) k x) y ≡ false) is (best.1.1 k x h)),
       )
 
   -- what holds of each holds of the least
