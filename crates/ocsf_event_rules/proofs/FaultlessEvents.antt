@@ -270,11 +270,11 @@ module _ (schema : SchemaParts) (event : Tree) (fine : (place : List Step) (code
   abbrev IsElement : Tree → Tree → Type 0
   IsElement value child = (k : ℕ) × (values : List Tree) × (as_list value ≡ Some values) × (slice_get values k ≡ Some child)
 
-  members_of : (item : Option Item) (members : Option (List Member)) (object : ItemObject)
+  members_seen : (item : Option Item) (members : Option (List Member)) (object : ItemObject)
       → option_and_then (λ i. option_map (with_item i) members) item ≡ Some object → members ≡ Some object.members
-  members_of None members object e = absurd (none_is_some object e)
-  members_of (Some i) None object e = absurd (none_is_some object e)
-  members_of (Some i) (Some ms) object e = ap (λ o. Some (ItemObject.members o)) (some_is (with_item i ms) object e)
+  members_seen None members object e = absurd (none_is_some object e)
+  members_seen (Some i) None object e = absurd (none_is_some object e)
+  members_seen (Some i) (Some ms) object e = ap (λ o. Some (ItemObject.members o)) (some_is (with_item i ms) object e)
 
   value_picked : (attr : Option Attr) (value : Option Tree) (next : Seen) → picked schema ps attr value ≡ Some next → value ≡ Some next.value
   value_picked None value next e = absurd (none_is_some next e)
@@ -312,7 +312,7 @@ module _ (schema : SchemaParts) (event : Tree) (fine : (place : List Step) (code
 
   child_of : (step : Step) (here next : Seen) → seen_at schema ps step here ≡ Some next → IsMember here.value next.value ⊎ IsElement here.value next.value
   child_of (Name name) here next e =
-      inl (member_below name here.value (object_seen schema here) next (λ o is. members_of (item_of schema here.judge) (as_object here.value) o is) e)
+      inl (member_below name here.value (object_seen schema here) next (λ o is. members_seen (item_of schema here.judge) (as_object here.value) o is) e)
   child_of (At k) here next e = inr (element_below k here.judge here.value next e)
 
   -- ---- all the way down
