@@ -10,7 +10,7 @@ use Rattle.std.proofs.lemmas.Bool.Decides.{nat_tests}
 use Rattle.ocsf_tree.specs.declared.tree.Tree.{Tree, out-Tree}
 use Rattle.ocsf_tree.specs.declared.tree.Tree.TheOpen.{Tree-F}
 use Rattle.ocsf_tree.specs.declared.tree.Member.{Member}
-use Rattle.ocsf_tree.specs.Lookup.{member_in, member_of, member_at}
+use Rattle.ocsf_tree.specs.Lookup.{member_in, member_of, member_at, items_of, text_of, text_at, is_null}
 use Rattle.ocsf_tree.specs.Valid.{IsValid, IsValidList}
 use Rattle.ocsf_tree.proofs.Valid.{first_item_valid}
 use Rattle.ocsf_raw.specs.declared.what.What.TheVariants.{BadName}
@@ -20,8 +20,7 @@ use Rattle.ocsf_raw.specs.declared.wanted.Plain.TheVariants as plain
 use Rattle.ocsf_raw.specs.declared.wanted.Listed.TheVariants as listed
 use Rattle.ocsf_raw.specs.declared.wanted.Object.TheVariants as object
 use Rattle.ocsf_raw.specs.Names.{is_name}
-use Rattle.ocsf_raw.specs.Members.{items_of, text_of, text_at}
-use Rattle.ocsf_raw.specs.Wanted.{there, kind_count, one_kind_fault, change_fault, text_fault, tested, some_list, change_fields, member_wanted, is_include, is_null, counts}
+use Rattle.ocsf_raw.specs.Wanted.{there, kind_count, one_kind_fault, change_fault, text_fault, tested, some_list, change_fields, member_wanted, is_include, counts}
 use Rattle.ocsf_raw.specs.Shape.{IsFaultless, is_given, change_needed}
 use Rattle.ocsf_raw.proofs.Faultless.{plain_faultless, item_faultless, list_faultless, each_item, item_each, member_faultless, needed_given, object_faultless, EachField, field_each}
 use Rattle.ocsf_raw.proofs.Parts.{valid_items, valid_member}

@@ -6,6 +6,7 @@ use Rattle.std.specs.Str.{bytes_eq}
 use Rattle.std.specs.Ordering.{is_lt}
 use Rattle.ocsf_tree.specs.ByName.{text_cmp}
 use Rattle.ocsf_tree.specs.Key.{side_text}
+pub use Rattle.ocsf_tree.specs.Fault.{fault}
 use Rattle.ocsf_tree.specs.LeastFault.{least_fault}
 use Rattle.ocsf_tree.specs.declared.fault.Fault.{Fault}
 use Rattle.ocsf_tree.specs.declared.fault.Code.{Code}
@@ -21,12 +22,10 @@ use Rattle.ocsf_bundle.specs.declared.stored.StoredFile.{StoredFile}
 use Rattle.ocsf_bundle.specs.declared.stored.ActiveFile.{ActiveFile}
 use Rattle.ocsf_bundle.specs.declared.numbers.Numbered.{Numbered}
 use Rattle.ocsf_bundle.specs.Active.{active_files, extension_uid}
-use Rattle.ocsf_bundle.specs.Keys.{key_of, has_slash, patched, giving, keys_given, key_given, profile_given, extension_given, active_keys}
+use Rattle.ocsf_bundle.specs.Keys.{key_of, patched, giving, keys_given, key_given, profile_given, extension_given, active_keys}
+use Rattle.ocsf_raw.specs.Names.{has_slash}
 use Rattle.ocsf_bundle.specs.Looks.{is_there}
 use Rattle.ocsf_bundle.specs.FilesLook.{item_of, categories_said, types_said, extension_file_of, looks}
-
-abbrev pub fault : Code → List ℕ → List ℕ → Fault
-fault c subject name = record { code = c; subject = subject; name = name }
 
 abbrev pub fault_if : Bool → Fault → Option Fault
 fault_if is_so f = if is_so then Some f else None

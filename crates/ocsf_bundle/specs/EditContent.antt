@@ -4,8 +4,7 @@ use Rattle.std.specs.List.{filter_map}
 use Rattle.ocsf_tree.specs.declared.tree.Tree.{Tree}
 use Rattle.ocsf_tree.specs.declared.tree.Tree.TheOpen.{Tree-F}
 use Rattle.ocsf_tree.specs.declared.tree.Member.{Member}
-use Rattle.ocsf_tree.specs.Lookup.{member_at}
-use Rattle.ocsf_raw.specs.Members.{text_at}
+use Rattle.ocsf_tree.specs.Lookup.{member_at, text_at}
 use Rattle.ocsf_bundle.specs.declared.edit.Change.{Change}
 use Rattle.ocsf_bundle.specs.declared.edit.Change.TheVariants as change
 

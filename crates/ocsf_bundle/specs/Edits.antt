@@ -3,12 +3,11 @@ use Rattle.std.specs.Prelude.{◌≡◌, ℕ, List, codes, true, Some, None, Res
 use Rattle.std.specs.List.{AllZip}
 use Rattle.ocsf_tree.specs.declared.tree.Tree.{Tree, out-Tree}
 use Rattle.ocsf_tree.specs.declared.place.Step.{Step}
-use Rattle.ocsf_tree.specs.Lookup.{member_at}
+use Rattle.ocsf_tree.specs.Lookup.{member_at, items_of, text_at}
 use Rattle.ocsf_tree.specs.Valid.{IsValid}
 use Rattle.ocsf_raw.specs.declared.file_shape.RawError.{RawError}
 use Rattle.ocsf_raw.specs.declared.file_shape.RawError.TheVariants as error
 use Rattle.ocsf_raw.specs.Names.{is_name}
-use Rattle.ocsf_raw.specs.Members.{items_of, text_at}
 use Rattle.ocsf_raw.specs.Wanted.{kind_count}
 use Rattle.ocsf_raw.specs.EditShape.{edit_faults, IsEditFault}
 use Rattle.ocsf_bundle.specs.declared.edit.Change.{Change}

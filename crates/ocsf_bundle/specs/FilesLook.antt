@@ -4,7 +4,7 @@ use Rattle.std.specs.Option.{option_and_then, option_map, option_map_or}
 use Rattle.std.specs.List.{filter_map, before_first, after_first}
 use Rattle.std.specs.Str.{bytes_eq}
 use Rattle.ocsf_tree.specs.ByName.{at_name}
-use Rattle.ocsf_raw.specs.Names.{is_slash}
+use Rattle.ocsf_raw.specs.Names.{is_slash, has_slash}
 use Rattle.ocsf_raw.specs.declared.dictionary.DictEntry.{DictEntry}
 use Rattle.ocsf_raw.specs.declared.dictionary.TypeEntry.{TypeEntry}
 use Rattle.ocsf_raw.specs.declared.files.RawFile.{RawFile}
@@ -16,7 +16,7 @@ use Rattle.ocsf_raw.specs.declared.files.ProfileFile.{ProfileFile}
 use Rattle.ocsf_bundle.specs.declared.stored.StoredFile.{StoredFile}
 use Rattle.ocsf_bundle.specs.declared.stored.ActiveFile.{ActiveFile}
 use Rattle.ocsf_bundle.specs.Active.{active_files, in_layers, extension_of, extension_name, extension_uid, extension_said}
-use Rattle.ocsf_bundle.specs.Keys.{has_slash, giving, key_given, patch_given, profile_given, include_given, extension_given}
+use Rattle.ocsf_bundle.specs.Keys.{giving, key_given, patch_given, profile_given, include_given, extension_given}
 use Rattle.ocsf_bundle.specs.Looks.{Looks, PatchOf, Included, AsProfile, AsInclude, DictOf, CategoryOf, BuiltIn, Listed}
 
 -- ---- what a file shows

@@ -1,13 +1,14 @@
 -- The keys that files give.
 use Rattle.std.specs.Prelude.{ℕ, ◌&&◌, not, List, ◌∷◌, ◌++◌, Bool, true, false, if◌then◌else◌, Option, Some, None, is_some, map, filter}
 use Rattle.std.specs.Option.{option_and_then, option_map, option_map_or}
-use Rattle.std.specs.List.{filter_map, list_any}
+use Rattle.std.specs.List.{filter_map}
 use Rattle.std.specs.Str.{bytes_eq}
 use Rattle.ocsf_tree.specs.FirstOfEach.{first_of_each}
 use Rattle.ocsf_tree.specs.declared.key.Side.{Side}
 use Rattle.ocsf_tree.specs.declared.key.Side.TheVariants as side
 use Rattle.ocsf_tree.specs.declared.key.Key.{Key}
-use Rattle.ocsf_raw.specs.Names.{is_slash}
+use Rattle.ocsf_tree.specs.Key.{same_side}
+use Rattle.ocsf_raw.specs.Names.{has_slash}
 use Rattle.ocsf_raw.specs.declared.files.RawFile.{RawFile}
 use Rattle.ocsf_raw.specs.declared.files.RawFile.TheVariants as raw
 use Rattle.ocsf_raw.specs.declared.files.ItemFile.{ItemFile}
@@ -17,15 +18,6 @@ use Rattle.ocsf_bundle.specs.Active.{extension_of, path_below}
 -- the key of a name that a file gives: a file of core the name, one of extension `e` `e/name`
 abbrev pub key_of : ActiveFile → List ℕ → List ℕ
 key_of active name = option_map_or (λ ext. ext.name ++ 47 ∷ name) (extension_of active) name
-
-abbrev pub has_slash : List ℕ → Bool
-has_slash name = list_any is_slash name
-
-abbrev pub same_side : Side → Side → Bool
-same_side side.Class side.Class = true
-same_side side.Object side.Object = true
-same_side side.Class side.Object = false
-same_side side.Object side.Class = false
 
 -- whether the file has no name, or that one
 abbrev pub has_no_other_name : ItemFile → List ℕ → Bool

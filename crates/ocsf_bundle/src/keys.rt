@@ -1,12 +1,12 @@
 // The full keys of the files that count, in order.
 ghost use Rattle.std.specs.Prelude.{◌≡◌, IfOk};
 ghost use Rattle.std.specs.Option.{option_copied};
-ghost use Rattle.ocsf_bundle.specs.Keys.{key_of, has_slash, has_no_other_name, patched, item_key};
+ghost use Rattle.ocsf_bundle.specs.Keys.{key_of, has_no_other_name, patched, item_key};
 ghost use Rattle.ocsf_bundle.specs.Groups.{given_by};
 
 use crate::active::path_below;
 use crate::stored::ActiveFile;
-use ocsf_raw::{ItemFile, RawFile};
+use ocsf_raw::{ItemFile, RawFile, has_slash};
 use ocsf_tree::{Side, Text};
 use std::alloc::{AllocError, Global};
 
@@ -23,12 +23,6 @@ pub fn key_of(alloc: Global, active: &ActiveFile, name: &str) -> Result<Text, Al
         }
         None => Text::of(alloc, name),
     }
-}
-
-pub fn has_slash(name: &str) -> bool
-    ensures { result ≡ has_slash name.now }
-{
-    name.as_bytes().contains(&b'/')
 }
 
 fn has_no_other_name(file: &ItemFile, name: &Text) -> bool

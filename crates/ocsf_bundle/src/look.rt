@@ -16,9 +16,10 @@ use crate::active::extension_said;
 use crate::cells::{Cell, Part};
 use crate::groups::{Group, group_at};
 use crate::index::{Index, Sides};
-use crate::keys::has_slash;
 use crate::stored::ActiveFile;
-use ocsf_raw::{CategoryEntry, DictEntry, ExtFile, ItemFile, RawFile, TypeEntry, below, folder};
+use ocsf_raw::{
+    CategoryEntry, DictEntry, ExtFile, ItemFile, RawFile, TypeEntry, below, folder, has_slash,
+};
 use ocsf_tree::{Side, find_by_name};
 
 pub fn item_of(file: &ActiveFile) -> Option<&ItemFile>

@@ -9,10 +9,10 @@ ghost use Rattle.ocsf_bundle.specs.OwnFaults.{given_in};
 use crate::faults::{fault, lesser_of};
 use crate::groups::group_at;
 use crate::index::Index;
-use crate::keys::{has_slash, patched};
+use crate::keys::patched;
 use crate::look::{groups_by_side, item_of};
 use crate::stored::ActiveFile;
-use ocsf_raw::ItemFile;
+use ocsf_raw::{ItemFile, has_slash};
 use ocsf_tree::{Code, Fault, Side, Text};
 use std::alloc::{AllocError, Global};
 

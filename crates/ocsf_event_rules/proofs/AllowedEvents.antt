@@ -14,6 +14,7 @@ use Rattle.ocsf_tree.specs.declared.place.Step.{Step}
 use Rattle.ocsf_tree.specs.declared.place.Step.TheVariants.{At, Name}
 use Rattle.ocsf_tree.specs.declared.attribute.Requirement.TheVariants.{Required}
 use Rattle.ocsf_tree.specs.Among.{is_among}
+use Rattle.ocsf_tree.specs.Lookup.{members_of}
 use Rattle.ocsf_event_rules.specs.EventLaws.{AllowedIsFaultless}
 use Rattle.ocsf_schema.specs.declared.records.Attr.{Attr}
 use Rattle.ocsf_schema.specs.declared.records.Item.{Item}
@@ -21,7 +22,7 @@ use Rattle.ocsf_schema.specs.declared.records.Kind.{Kind}
 use Rattle.ocsf_schema.specs.declared.records.Limit.{Limit}
 use Rattle.ocsf_schema.specs.declared.parts.SchemaParts.{SchemaParts}
 use Rattle.ocsf_event_rules.specs.Profiles.{as_list, as_text, profile_list, is_in_force, is_profile, named_profiles}
-use Rattle.ocsf_event_rules.specs.EventClass.{object_in, as_object, value_of, item_named, kind_named, attribute_named, class_of, class_of_event}
+use Rattle.ocsf_event_rules.specs.EventClass.{as_object, value_of, item_named, kind_named, attribute_named, class_of, class_of_event}
 use Rattle.ocsf_event_rules.specs.Allowed.{Fits, Open, Closed, FitsMember, Member_of, Accepts, Single, Each, AcceptsSingle, OfKind, OfObject, OfAnything, IsAllowed}
 use Rattle.ocsf_event_rules.specs.Conditions.{IsOfBase, IsOfKind, MeetsLimit, key_in, listed_in_force, HasOneOrMore, HasJustOne}
 use Rattle.ocsf_event_rules.specs.Wrong.{Wrong, AttributeUnknown, ProfileInactive, RequiredMissing, WrongType, TooLong, OutOfRange, Pattern, NotAnInstant, NotAValue, EnumUnknown, AtLeastOne, JustOne, NumberMismatch, ProfileUnknown}
@@ -216,7 +217,7 @@ module _ (schema : SchemaParts) (profiles : List (List ℕ)) where
   breaks_none code detail (OfAnything attr value named some) wrong = subst (λ t. BreaksLimit schema t value code detail) named wrong
 
   -- an object is no key
-  no_key_in : (x : Tree-F Tree Member) (detail : List ℕ) → key_in x ≡ Some detail → is_some (object_in x) ≡ true → ⊥
+  no_key_in : (x : Tree-F Tree Member) (detail : List ℕ) → key_in x ≡ Some detail → is_some (members_of x) ≡ true → ⊥
   no_key_in Tree-F.Null detail e h = true≢false (sym h)
   no_key_in (Tree-F.Flag b) detail e h = true≢false (sym h)
   no_key_in (Tree-F.Whole z) detail e h = true≢false (sym h)

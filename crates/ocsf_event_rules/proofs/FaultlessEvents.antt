@@ -16,7 +16,7 @@ use Rattle.ocsf_tree.specs.declared.tree.Member.{Member, roll-Member}
 use Rattle.std.specs.Str.{bytes_eq}
 use Rattle.ocsf_tree.proofs.Valid.{item_valid, items_of_valid, member_valid, members_of_valid}
 use Rattle.ocsf_tree.proofs.WrittenOut.{out-Null, out-Flag, out-Whole, out-Words, out-List, out-Members}
-use Rattle.ocsf_tree.specs.Lookup.{member_in}
+use Rattle.ocsf_tree.specs.Lookup.{items_of, members_of, member_in}
 use Rattle.ocsf_tree.specs.Valid.{IsValid}
 use Rattle.ocsf_tree.specs.declared.place.Step.{Step}
 use Rattle.ocsf_tree.specs.declared.place.Step.TheVariants.{At, Name}
@@ -33,8 +33,8 @@ use Rattle.ocsf_schema.specs.declared.records.Target.{Target}
 use Rattle.ocsf_schema.specs.declared.records.Target.TheVariants as target
 use Rattle.ocsf_schema.specs.declared.parts.SchemaParts.{SchemaParts}
 use Rattle.ocsf_tree.specs.Among.{is_among}
-use Rattle.ocsf_event_rules.specs.Profiles.{list_in, as_list, as_text, profile_list, is_in_force, is_profile, named_profiles}
-use Rattle.ocsf_event_rules.specs.EventClass.{object_in, as_object, is_null, unless_null, value_of, item_named, kind_named, attribute_named, class_of, class_of_event, whole_of, class_numbered, has_number, is_number}
+use Rattle.ocsf_event_rules.specs.Profiles.{as_list, as_text, profile_list, is_in_force, is_profile, named_profiles}
+use Rattle.ocsf_event_rules.specs.EventClass.{as_object, is_null, unless_null, value_of, item_named, kind_named, attribute_named, class_of, class_of_event, whole_of, class_numbered, has_number, is_number}
 use Rattle.ocsf_event_rules.specs.Allowed.{Fits, Open, Closed, FitsMember, Member_of, Accepts, Single, Each, AcceptsSingle, OfKind, OfObject, OfAnything, IsAllowed}
 use Rattle.ocsf_event_rules.specs.Conditions.{IsOfBase, IsOfKind, MeetsLimit, IsOfEnumeration, enum_key, is_key, listed_in_force, DoNumbersAgree, AreProfilesKnown, expected_type}
 use Rattle.ocsf_event_rules.specs.Wrong.{Wrong, ClassUnknown, AttributeUnknown, ProfileInactive, RequiredMissing, WrongType, TooLong, OutOfRange, Pattern, NotAnInstant, NotAValue, EnumUnknown, AtLeastOne, JustOne, NumberMismatch, ProfileUnknown}
@@ -270,11 +270,11 @@ module _ (schema : SchemaParts) (event : Tree) (fine : (place : List Step) (code
   abbrev IsElement : Tree → Tree → Type 0
   IsElement value child = (k : ℕ) × (values : List Tree) × (as_list value ≡ Some values) × (slice_get values k ≡ Some child)
 
-  members_of : (item : Option Item) (members : Option (List Member)) (object : ItemObject)
+  members_seen : (item : Option Item) (members : Option (List Member)) (object : ItemObject)
       → option_and_then (λ i. option_map (with_item i) members) item ≡ Some object → members ≡ Some object.members
-  members_of None members object e = absurd (none_is_some object e)
-  members_of (Some i) None object e = absurd (none_is_some object e)
-  members_of (Some i) (Some ms) object e = ap (λ o. Some (ItemObject.members o)) (some_is (with_item i ms) object e)
+  members_seen None members object e = absurd (none_is_some object e)
+  members_seen (Some i) None object e = absurd (none_is_some object e)
+  members_seen (Some i) (Some ms) object e = ap (λ o. Some (ItemObject.members o)) (some_is (with_item i ms) object e)
 
   value_picked : (attr : Option Attr) (value : Option Tree) (next : Seen) → picked schema ps attr value ≡ Some next → value ≡ Some next.value
   value_picked None value next e = absurd (none_is_some next e)
@@ -312,7 +312,7 @@ module _ (schema : SchemaParts) (event : Tree) (fine : (place : List Step) (code
 
   child_of : (step : Step) (here next : Seen) → seen_at schema ps step here ≡ Some next → IsMember here.value next.value ⊎ IsElement here.value next.value
   child_of (Name name) here next e =
-      inl (member_below name here.value (object_seen schema here) next (λ o is. members_of (item_of schema here.judge) (as_object here.value) o is) e)
+      inl (member_below name here.value (object_seen schema here) next (λ o is. members_seen (item_of schema here.judge) (as_object here.value) o is) e)
   child_of (At k) here next e = inr (element_below k here.judge here.value next e)
 
   -- ---- all the way down
@@ -364,20 +364,20 @@ module _ (schema : SchemaParts) (event : Tree) (fine : (place : List Step) (code
 
   good_layer : (y : Tree-F GoodTree GoodMember) → IsGoodAnywhere (roll-Tree (bare y))
   unfolding roll-Tree denote.Hole.Carrier.roll
-  good_layer Tree-F.Null = from_children tree.Null (λ child valid c. absurd (neither tree.Null child (ap object_in out-Null) (ap list_in out-Null) c))
-  good_layer (Tree-F.Flag b) = from_children (tree.Flag b) (λ child valid c. absurd (neither (tree.Flag b) child (ap object_in (out-Flag b)) (ap list_in (out-Flag b)) c))
-  good_layer (Tree-F.Whole z) = from_children (tree.Whole z) (λ child valid c. absurd (neither (tree.Whole z) child (ap object_in (out-Whole z)) (ap list_in (out-Whole z)) c))
-  good_layer (Tree-F.Words t) = from_children (tree.Words t) (λ child valid c. absurd (neither (tree.Words t) child (ap object_in (out-Words t)) (ap list_in (out-Words t)) c))
+  good_layer Tree-F.Null = from_children tree.Null (λ child valid c. absurd (neither tree.Null child (ap members_of out-Null) (ap items_of out-Null) c))
+  good_layer (Tree-F.Flag b) = from_children (tree.Flag b) (λ child valid c. absurd (neither (tree.Flag b) child (ap members_of (out-Flag b)) (ap items_of (out-Flag b)) c))
+  good_layer (Tree-F.Whole z) = from_children (tree.Whole z) (λ child valid c. absurd (neither (tree.Whole z) child (ap members_of (out-Whole z)) (ap items_of (out-Whole z)) c))
+  good_layer (Tree-F.Words t) = from_children (tree.Words t) (λ child valid c. absurd (neither (tree.Words t) child (ap members_of (out-Words t)) (ap items_of (out-Words t)) c))
   good_layer (Tree-F.List ts) = from_children (tree.List (map (λ t. t.0) ts)) (λ child valid c. elim c [
-    | inl m ↦ absurd (no_member (tree.List (map (λ t. t.0) ts)) child (ap object_in (out-List (map (λ t. t.0) ts))) m)
+    | inl m ↦ absurd (no_member (tree.List (map (λ t. t.0) ts)) child (ap members_of (out-List (map (λ t. t.0) ts))) m)
     | inr m ↦
-        let same : slice_get (map (λ t. t.0) ts) m.0 ≡ Some child = subst (λ xs. slice_get xs m.0 ≡ Some child) (some_is m.1 (map (λ t. t.0) ts) (sym m.2 ∙ ap list_in (out-List (map (λ t. t.0) ts)))) m.3 in
+        let same : slice_get (map (λ t. t.0) ts) m.0 ≡ Some child = subst (λ xs. slice_get xs m.0 ≡ Some child) (some_is m.1 (map (λ t. t.0) ts) (sym m.2 ∙ ap items_of (out-List (map (λ t. t.0) ts)))) m.3 in
         (valid_of (slice_get (map (λ t. t.0) ts) m.0) child (item_valid (map (λ t. t.0) ts) m.0 (items_of_valid (map (λ t. t.0) ts) valid)) same, good_item ts m.0 child same)
   ])
   good_layer (Tree-F.Members ms) = from_children (tree.Members (map (λ m. m.0) ms)) (λ child valid c. elim c [
-    | inr m ↦ absurd (no_element (tree.Members (map (λ m. m.0) ms)) child (ap list_in (out-Members (map (λ m. m.0) ms))) m)
+    | inr m ↦ absurd (no_element (tree.Members (map (λ m. m.0) ms)) child (ap items_of (out-Members (map (λ m. m.0) ms))) m)
     | inl m ↦
-        let same : member_in m.0 (map (λ m. m.0) ms) ≡ Some child = subst (λ xs. member_in m.0 xs ≡ Some child) (some_is m.1 (map (λ m. m.0) ms) (sym m.2 ∙ ap object_in (out-Members (map (λ m. m.0) ms)))) m.3 in
+        let same : member_in m.0 (map (λ m. m.0) ms) ≡ Some child = subst (λ xs. member_in m.0 xs ≡ Some child) (some_is m.1 (map (λ m. m.0) ms) (sym m.2 ∙ ap members_of (out-Members (map (λ m. m.0) ms)))) m.3 in
         (valid_of (member_in m.0 (map (λ m. m.0) ms)) child (member_valid m.0 (map (λ m. m.0) ms) (members_of_valid (map (λ m. m.0) ms) valid)) same, good_member ms m.0 child same)
   ])
 

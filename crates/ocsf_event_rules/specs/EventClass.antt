@@ -1,5 +1,5 @@
 -- The class of an event, and what a schema has under a name.
-use Rattle.std.specs.Prelude.{ℕ, ℤ, pos, negsuc, ◌==◌, Bool, true, false, List, find, codes, Option, Some, None, if◌then◌else◌}
+use Rattle.std.specs.Prelude.{ℕ, ℤ, pos, negsuc, ◌==◌, Bool, false, List, find, codes, Option, Some, None, if◌then◌else◌}
 use Rattle.std.specs.Option.{option_map_or, option_and_then}
 use Rattle.ocsf_tree.specs.declared.tree.Tree.{Tree, out-Tree}
 use Rattle.ocsf_tree.specs.declared.tree.Tree.TheOpen.{Tree-F}
@@ -7,7 +7,8 @@ use Rattle.ocsf_tree.specs.declared.tree.Member.{Member}
 use Rattle.ocsf_tree.specs.declared.key.Side.TheVariants.{Object}
 use Rattle.ocsf_tree.specs.ByName.{at_name}
 use Rattle.ocsf_tree.specs.Key.{key_text}
-use Rattle.ocsf_tree.specs.Lookup.{member_in}
+use Rattle.ocsf_tree.specs.Lookup as tree
+use Rattle.ocsf_tree.specs.Lookup.{members_of, member_in}
 use Rattle.ocsf_schema.specs.declared.records.Attr.{Attr}
 use Rattle.ocsf_schema.specs.declared.records.Item.{Item}
 use Rattle.ocsf_schema.specs.declared.records.Kind.{Kind}
@@ -15,13 +16,9 @@ use Rattle.ocsf_schema.specs.declared.parts.SchemaParts.{SchemaParts}
 
 -- ---- what a value is
 
-abbrev pub object_in : Tree-F Tree Member → Option (List Member)
-object_in (Tree-F.Members members) = Some members
-object_in _ = None
-
 -- the members of an object
 abbrev pub as_object : Tree → Option (List Member)
-as_object value = object_in (out-Tree value)
+as_object value = members_of (out-Tree value)
 
 abbrev pub whole_in : Tree-F Tree Member → Option ℤ
 whole_in (Tree-F.Whole whole) = Some whole
@@ -30,12 +27,8 @@ whole_in _ = None
 abbrev pub as_whole : Tree → Option ℤ
 as_whole value = whole_in (out-Tree value)
 
-abbrev pub is_null_in : Tree-F Tree Member → Bool
-is_null_in Tree-F.Null = true
-is_null_in _ = false
-
 abbrev pub is_null : Tree → Bool
-is_null value = is_null_in (out-Tree value)
+is_null value = tree.is_null (out-Tree value)
 
 abbrev pub unless_null : Tree → Option Tree
 unless_null value = if is_null value then None else Some value

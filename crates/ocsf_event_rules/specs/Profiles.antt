@@ -1,27 +1,17 @@
 -- The profiles of an event, and the attributes that are in force.
-use Rattle.std.specs.Prelude.{ℕ, Bool, true, List, [], filter_map, codes, Option, Some, None, unwrap_or, is_some}
+use Rattle.std.specs.Prelude.{ℕ, Bool, true, List, [], filter_map, codes, Option, unwrap_or, is_some}
 use Rattle.std.specs.Option.{option_map_or, option_and_then}
 use Rattle.ocsf_tree.specs.declared.tree.Tree.{Tree, out-Tree}
-use Rattle.ocsf_tree.specs.declared.tree.Tree.TheOpen.{Tree-F}
-use Rattle.ocsf_tree.specs.declared.tree.Member.{Member}
-use Rattle.ocsf_tree.specs.Lookup.{member_at}
+use Rattle.ocsf_tree.specs.Lookup.{text_of, items_of, member_at}
 use Rattle.ocsf_schema.specs.declared.records.Attr.{Attr}
 use Rattle.ocsf_schema.specs.declared.parts.SchemaParts.{SchemaParts}
 use Rattle.ocsf_tree.specs.Among.{is_among}
 
-abbrev pub list_in : Tree-F Tree Member → Option (List Tree)
-list_in (Tree-F.List items) = Some items
-list_in _ = None
-
 abbrev pub as_list : Tree → Option (List Tree)
-as_list value = list_in (out-Tree value)
-
-abbrev pub text_in : Tree-F Tree Member → Option (List ℕ)
-text_in (Tree-F.Words text) = Some text
-text_in _ = None
+as_list value = items_of (out-Tree value)
 
 abbrev pub as_text : Tree → Option (List ℕ)
-as_text value = text_in (out-Tree value)
+as_text value = text_of (out-Tree value)
 
 -- the list that an event has at `metadata.profiles`
 abbrev pub profile_list : Tree → List Tree

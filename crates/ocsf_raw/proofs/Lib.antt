@@ -1,4 +1,3 @@
-pub mod EachOf
 pub mod EntryTables
 pub mod Faultless
 pub mod FilesByName

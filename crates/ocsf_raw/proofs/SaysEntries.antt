@@ -9,7 +9,7 @@ use Rattle.ocsf_tree.specs.declared.tree.Tree.{Tree, out-Tree}
 use Rattle.ocsf_tree.specs.declared.tree.Tree.TheOpen.{Tree-F}
 use Rattle.ocsf_tree.specs.declared.tree.Member.{Member}
 use Rattle.ocsf_tree.specs.declared.attribute.EnumMember.{EnumMember}
-use Rattle.ocsf_tree.specs.Lookup.{member_at}
+use Rattle.ocsf_tree.specs.Lookup.{member_at, members_of, text_at, is_null}
 use Rattle.ocsf_tree.specs.Valid.{IsValid}
 use Rattle.ocsf_raw.specs.declared.dictionary.DictEntry.{DictEntry}
 use Rattle.ocsf_raw.specs.declared.dictionary.TypeEntry.{TypeEntry}
@@ -22,8 +22,8 @@ use Rattle.ocsf_raw.specs.declared.wanted.Listed.TheVariants as listed
 use Rattle.ocsf_raw.specs.declared.wanted.Object.{Object as Objects}
 use Rattle.ocsf_raw.specs.declared.wanted.Object.TheVariants as object
 use Rattle.ocsf_raw.specs.Names.{is_name}
-use Rattle.ocsf_raw.specs.Members.{members_of, requirement_named, text_at}
-use Rattle.ocsf_raw.specs.Wanted.{some_object, object_fault, named_entry, member_wanted, is_include, is_null, has_null_entries, counts, enum_member_fields, dictionary_entry_fields, type_fields, category_fields, whole_in}
+use Rattle.ocsf_tree.specs.Requirement.{requirement_named}
+use Rattle.ocsf_raw.specs.Wanted.{some_object, object_fault, named_entry, member_wanted, is_include, has_null_entries, counts, enum_member_fields, dictionary_entry_fields, type_fields, category_fields, whole_in}
 use Rattle.ocsf_raw.specs.Shape.{IsFaultless, names_of_object}
 use Rattle.ocsf_raw.specs.Content.{requirement_at, span_at, whole_pair, enum_member, enum_members, dictionary_entry_named, listed_attribute, unless_null, type_named, listed_type, category_named, listed_category}
 use Rattle.ocsf_raw.specs.Says.{IsWholeIn, IsRange, IsObjectOf, IsGiven, IsGivenList, is_entry, is_enum_entry, SaysEnumMember, IsEnum, SaysDictEntry, SaysType, SaysCategory}

@@ -9,7 +9,7 @@ use Rattle.ocsf_tree.specs.declared.tree.Tree.TheOpen.{Tree-F}
 use Rattle.ocsf_tree.specs.declared.tree.Member.{Member}
 use Rattle.ocsf_tree.specs.declared.key.Side.{Side}
 use Rattle.ocsf_tree.specs.declared.key.Side.TheVariants as side
-use Rattle.ocsf_tree.specs.Lookup.{member_in, member_of, member_at}
+use Rattle.ocsf_tree.specs.Lookup.{member_in, member_of, member_at, items_of, members_of, text_at, is_null}
 use Rattle.ocsf_tree.specs.Valid.{IsValid}
 use Rattle.ocsf_raw.specs.declared.attribute.RawAttr.{RawAttr}
 use Rattle.ocsf_raw.specs.declared.dictionary.DictFile.{DictFile}
@@ -27,8 +27,8 @@ use Rattle.ocsf_raw.specs.declared.wanted.Wanted.TheVariants.{Plain, Listed, Obj
 use Rattle.ocsf_raw.specs.declared.wanted.Plain.TheVariants as plain
 use Rattle.ocsf_raw.specs.declared.wanted.Listed.TheVariants as listed
 use Rattle.ocsf_raw.specs.declared.wanted.Object.TheVariants as object
-use Rattle.ocsf_raw.specs.Members.{items_of, members_of, text_at, requirement_named}
-use Rattle.ocsf_raw.specs.Wanted.{field_of, is_null, some_object, whole_in, annotations_fields, constraints_fields, version_fields, categories_fields, dictionary_fields, type_table_fields, object_item_fields, item_fields, profile_fields, include_fields, extension_fields}
+use Rattle.ocsf_tree.specs.Requirement.{requirement_named}
+use Rattle.ocsf_raw.specs.Wanted.{field_of, some_object, whole_in, annotations_fields, constraints_fields, version_fields, categories_fields, dictionary_fields, type_table_fields, object_item_fields, item_fields, profile_fields, include_fields, extension_fields}
 use Rattle.ocsf_raw.specs.Shape.{IsFaultless, is_given, item_needed}
 use Rattle.ocsf_raw.specs.Content.{members_at, texts_in, texts_at, listed_category, listed_attribute, listed_type, type_members, entry, entries, includes, constraint_at, item_uid, item_file, annotation_text, profile_file, extension_file, dictionary_file, content}
 use Rattle.ocsf_raw.specs.FileShape.{file_wanted}

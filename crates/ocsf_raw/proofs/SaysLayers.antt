@@ -7,7 +7,7 @@ use Rattle.std.proofs.lemmas.Option.{same_Some}
 use Rattle.ocsf_tree.specs.declared.tree.Tree.{Tree, out-Tree}
 use Rattle.ocsf_tree.specs.declared.tree.Tree.TheOpen.{Tree-F}
 use Rattle.ocsf_tree.specs.declared.tree.Member.{Member}
-use Rattle.ocsf_tree.specs.Lookup.{member_in, member_of, member_at}
+use Rattle.ocsf_tree.specs.Lookup.{member_in, member_of, member_at, members_of, is_null}
 use Rattle.ocsf_tree.specs.Valid.{IsValid}
 use Rattle.ocsf_raw.specs.declared.attribute.Mark.{Mark}
 use Rattle.ocsf_raw.specs.declared.attribute.Mark.TheVariants.{Unsaid, Cleared, Named}
@@ -20,8 +20,8 @@ use Rattle.ocsf_raw.specs.declared.wanted.Object.{Object as Objects}
 use Rattle.ocsf_raw.specs.declared.wanted.Object.TheVariants as object
 use Rattle.ocsf_raw.specs.Names.{is_name, is_reference}
 use Rattle.ocsf_raw.specs.Forms.{is_include_path}
-use Rattle.ocsf_raw.specs.Members.{members_of, requirement_named}
-use Rattle.ocsf_raw.specs.Wanted.{mark_fault, includes_fault, some_object, entry_fault, object_fault, named_entry, member_wanted, include_key, is_include, is_null, has_null_entries, counts, entry_fields}
+use Rattle.ocsf_tree.specs.Requirement.{requirement_named}
+use Rattle.ocsf_raw.specs.Wanted.{mark_fault, includes_fault, some_object, entry_fault, object_fault, named_entry, member_wanted, include_key, is_include, has_null_entries, counts, entry_fields}
 use Rattle.ocsf_raw.specs.Shape.{IsFaultless, names_of_object}
 use Rattle.ocsf_raw.specs.Content.{enum_member, mark_of, mark_in, entry_named, entry, includes_of, includes_in}
 use Rattle.ocsf_raw.specs.Says.{IsRequirement, IsIncludePath, IsIncludes, IsListOf, IsAbsent, IsGiven, is_layer_entry, IsMark, removal, SaysAttribute, SaysEntry, IsItemEntries, IsLayerEntries}

@@ -10,7 +10,7 @@ use Rattle.ocsf_tree.specs.declared.attribute.Requirement.{Requirement}
 use Rattle.ocsf_tree.specs.declared.attribute.Span.{Span}
 use Rattle.ocsf_tree.specs.declared.key.Side.{Side}
 use Rattle.ocsf_tree.specs.declared.key.Side.TheVariants as side
-use Rattle.ocsf_tree.specs.Lookup.{member_at}
+use Rattle.ocsf_tree.specs.Lookup.{member_at, items_of, members_of, text_of, text_at, is_null}
 use Rattle.ocsf_raw.specs.declared.attribute.Mark.{Mark}
 use Rattle.ocsf_raw.specs.declared.attribute.Mark.TheVariants.{Unsaid, Cleared, Named}
 use Rattle.ocsf_raw.specs.declared.attribute.RawAttr.{RawAttr}
@@ -25,8 +25,8 @@ use Rattle.ocsf_raw.specs.declared.files.ProfileFile.{ProfileFile}
 use Rattle.ocsf_raw.specs.declared.files.ExtFile.{ExtFile}
 use Rattle.ocsf_raw.specs.declared.path_form.Form.{Form}
 use Rattle.ocsf_raw.specs.declared.path_form.Form.TheVariants as form
-use Rattle.ocsf_raw.specs.Members.{items_of, members_of, text_of, text_at, requirement_named}
-use Rattle.ocsf_raw.specs.Wanted.{include_key, is_include, is_null}
+use Rattle.ocsf_tree.specs.Requirement.{requirement_named}
+use Rattle.ocsf_raw.specs.Wanted.{include_key, is_include}
 
 -- ---- members by their kind
 

@@ -1,6 +1,5 @@
 pub mod Names
 pub mod Forms
-pub mod Members
 pub mod What
 pub mod Wanted
 pub mod Least

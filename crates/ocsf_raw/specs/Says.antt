@@ -7,11 +7,11 @@ use Rattle.ocsf_tree.specs.declared.tree.Tree.TheOpen.{Tree-F}
 use Rattle.ocsf_tree.specs.declared.tree.Member.{Member}
 use Rattle.ocsf_tree.specs.declared.attribute.EnumMember.{EnumMember}
 use Rattle.ocsf_tree.specs.declared.attribute.Requirement.{Requirement}
-use Rattle.ocsf_tree.specs.declared.attribute.Requirement.TheVariants.{Required, Recommended, Optional}
 use Rattle.ocsf_tree.specs.declared.attribute.Span.{Span}
 use Rattle.ocsf_tree.specs.declared.key.Side.{Side}
 use Rattle.ocsf_tree.specs.declared.key.Side.TheVariants as side
-use Rattle.ocsf_tree.specs.Lookup.{member_at}
+use Rattle.ocsf_tree.specs.Requirement.{requirement_text}
+use Rattle.ocsf_tree.specs.Lookup.{member_at, is_null}
 use Rattle.ocsf_raw.specs.declared.attribute.Mark.{Mark}
 use Rattle.ocsf_raw.specs.declared.attribute.Mark.TheVariants.{Unsaid, Cleared, Named}
 use Rattle.ocsf_raw.specs.declared.attribute.RawAttr.{RawAttr}
@@ -28,7 +28,7 @@ use Rattle.ocsf_raw.specs.declared.path_form.Form.{Form}
 use Rattle.ocsf_raw.specs.declared.path_form.Form.TheVariants as form
 use Rattle.ocsf_raw.specs.Names.{is_name, is_reference}
 use Rattle.ocsf_raw.specs.Forms.{is_include_path}
-use Rattle.ocsf_raw.specs.Wanted.{is_include, is_null}
+use Rattle.ocsf_raw.specs.Wanted.{is_include}
 
 -- ---- sorts: the tree is of that sort, and says that value
 
@@ -52,13 +52,8 @@ IsIncludePath = IsTextThat is_include_path
 abbrev pub IsPattern : Tree → List ℕ → Type 0
 IsPattern t text = IsText t text × (length text ≤ 8192)
 
-abbrev pub requirement_word : Requirement → List ℕ
-requirement_word Required = codes "required"
-requirement_word Recommended = codes "recommended"
-requirement_word Optional = codes "optional"
-
 abbrev pub IsRequirement : Tree → Requirement → Type 0
-IsRequirement t requirement = IsText t (requirement_word requirement)
+IsRequirement t requirement = IsText t (requirement_text requirement)
 
 abbrev pub IsFlag : Tree → Bool → Type 0
 IsFlag t flag = out-Tree t ≡ Tree-F.Flag flag
@@ -75,18 +70,21 @@ IsListOf R t xs = (items : List Tree) × IsListOfAny t items × AllZip R items x
 
 -- two whole numbers
 abbrev pub IsRange : Tree → Span → Type 0
-IsRange t span = (low : Tree) × (high : Tree) × IsListOfAny t (low ∷ high ∷ []) × (out-Tree low ≡ Tree-F.Whole span.low) × (out-Tree high ≡ Tree-F.Whole span.high)
+IsRange t span = (low : Tree) × (high : Tree) × IsListOfAny t (low ∷ high ∷ [])
+    × (out-Tree low ≡ Tree-F.Whole span.low) × (out-Tree high ≡ Tree-F.Whole span.high)
 
 -- one path, or a list of them
 abbrev pub IsIncludes : Tree → List (List ℕ) → Type 0
-IsIncludes t paths = ((path : List ℕ) × IsIncludePath t path × (paths ≡ path ∷ [])) ⊎ IsListOf IsIncludePath t paths
+IsIncludes t paths =
+    ((path : List ℕ) × IsIncludePath t path × (paths ≡ path ∷ [])) ⊎ IsListOf IsIncludePath t paths
 
 abbrev pub IsObject : Tree → Type 0
 IsObject t = (members : List Member) × (out-Tree t ≡ Tree-F.Members members)
 
 -- each member that counts says one of these
 abbrev pub IsObjectOf : {B : Type 0} → (Member → Bool) → (Member → B → Type 0) → Tree → List B → Type 0
-IsObjectOf counting R t ys = (members : List Member) × (out-Tree t ≡ Tree-F.Members members) × AllZip R (filter counting members) ys
+IsObjectOf counting R t ys = (members : List Member) × (out-Tree t ≡ Tree-F.Members members)
+    × AllZip R (filter counting members) ys
 
 -- ---- members: what is said where one is, or isn't
 
@@ -125,7 +123,8 @@ is_layer_entry m = not (is_include m.name)
 pub record SaysEnumMember (m : Member) (e : EnumMember) : Type 0 where
   pub object : IsObject m.value
   pub key : e.key ≡ m.name
-  pub caption : (given : Option (List ℕ)) × IsGiven IsText (member_at (codes "caption") m.value) given × (e.caption ≡ unwrap_or given m.name)
+  pub caption : (given : Option (List ℕ)) × IsGiven IsText (member_at (codes "caption") m.value) given
+      × (e.caption ≡ unwrap_or given m.name)
   pub description : IsGiven IsText (member_at (codes "description") m.value) e.description
 
 abbrev pub IsEnum : Tree → List EnumMember → Type 0
@@ -209,7 +208,8 @@ abbrev pub SaysVersion : Tree → List ℕ → Type 0
 SaysVersion t version = IsObject t × IsGiven IsText (member_at (codes "version") t) (Some version)
 
 abbrev pub SaysCategories : Tree → List CategoryEntry → Type 0
-SaysCategories t entries = IsObject t × IsSomeAnd (member_at (codes "attributes") t) (λ u. IsObjectOf is_entry SaysCategory u entries)
+SaysCategories t entries = IsObject t
+    × IsSomeAnd (member_at (codes "attributes") t) (λ u. IsObjectOf is_entry SaysCategory u entries)
 
 -- the types stand one object further down
 abbrev pub IsTypeTable : Tree → List TypeEntry → Type 0
@@ -222,7 +222,8 @@ pub record SaysDictionary (t : Tree) (file : DictFile) : Type 0 where
 
 -- `$include` may stand among the entries
 abbrev pub IsItemEntries : Tree → List (List ℕ) → List RawAttr → Type 0
-IsItemEntries t includes entries = IsGivenList IsIncludes (member_at (codes "$include") t) includes × IsObjectOf is_layer_entry SaysEntry t entries
+IsItemEntries t includes entries = IsGivenList IsIncludes (member_at (codes "$include") t) includes
+    × IsObjectOf is_layer_entry SaysEntry t entries
 
 -- the entries, and nothing to include
 abbrev pub IsLayerEntries : Tree → List RawAttr → Type 0
@@ -244,8 +245,10 @@ pub record SaysItem (core : Bool) (t : Tree) (file : ItemFile) : Type 0 where
   pub category : IsGiven IsReference (member_at (codes "category") t) file.category
   pub uid : IsItemUid file.side (member_at (codes "uid") t) file.uid
   pub profiles : IsGivenList (IsListOf IsReference) (member_at (codes "profiles") t) file.profiles
-  pub attributes : (IsAbsent (member_at (codes "attributes") t) × (file.includes ≡ []) × (file.attributes ≡ [])) ⊎ IsSomeAnd (member_at (codes "attributes") t) (λ u. IsItemEntries u file.includes file.attributes)
-  pub at_least_one : IsGivenIn (codes "at_least_one") (IsListOf IsName) (member_at (codes "constraints") t) file.at_least_one
+  pub attributes : (IsAbsent (member_at (codes "attributes") t) × (file.includes ≡ []) × (file.attributes ≡ []))
+      ⊎ IsSomeAnd (member_at (codes "attributes") t) (λ u. IsItemEntries u file.includes file.attributes)
+  pub at_least_one :
+      IsGivenIn (codes "at_least_one") (IsListOf IsName) (member_at (codes "constraints") t) file.at_least_one
   pub just_one : IsGivenIn (codes "just_one") (IsListOf IsName) (member_at (codes "constraints") t) file.just_one
 
 pub record SaysProfile (t : Tree) (file : ProfileFile) : Type 0 where

@@ -1,12 +1,13 @@
 -- What is wanted of a file or an edit: at the place of a tree, of the items of a list and of the members
 -- of an object.
-use Rattle.std.specs.Prelude.{ℕ, ℤ, ◌+◌, pos, Bool, true, false, not, ◌&&◌, ◌||◌, ◌==◌, nat_le, int_le, List, [], ◌∷◌, length, if◌then◌else◌, codes, Option, Some, None}
+use Rattle.std.specs.Prelude.{ℕ, ℤ, ◌+◌, pos, Bool, true, false, not, ◌&&◌, ◌||◌, ◌==◌, nat_le, int_le, List, [], ◌∷◌, length, if◌then◌else◌, codes, Option, Some, None, is_some}
 use Rattle.std.specs.Str.{bytes_eq}
 use Rattle.ocsf_tree.specs.declared.tree.Tree.{Tree}
 use Rattle.ocsf_tree.specs.declared.tree.Tree.TheOpen.{Tree-F}
 use Rattle.ocsf_tree.specs.declared.tree.Member.{Member}
 use Rattle.ocsf_tree.specs.declared.attribute.Span.{Span}
-use Rattle.ocsf_tree.specs.Lookup.{member_of}
+use Rattle.ocsf_tree.specs.Lookup.{is_null, member_of}
+use Rattle.ocsf_tree.specs.Requirement.{requirement_named}
 use Rattle.ocsf_tree.specs.declared.key.Side.{Side}
 use Rattle.ocsf_tree.specs.declared.key.Side.TheVariants as side
 use Rattle.ocsf_raw.specs.declared.what.What.{What}
@@ -53,7 +54,7 @@ mark_fault Tree-F.Null = None
 mark_fault t = tested is_reference BadName t
 
 abbrev pub is_requirement : List ℕ → Bool
-is_requirement s = bytes_eq s (codes "required") || (bytes_eq s (codes "recommended") || bytes_eq s (codes "optional"))
+is_requirement s = is_some (requirement_named s)
 
 -- at most 8,192 bytes
 abbrev pub is_short : List ℕ → Bool
@@ -294,30 +295,36 @@ layer_entry_at name = if is_include name then Some (Refused NestedInclude) else 
 abbrev pub enum_member_at : List ℕ → Option Wanted
 enum_member_at name = if is_include name then None else Some (Object object.EnumMember)
 
+-- the members that an object of that kind may have by name
+abbrev pub fields_listed : Objects → Fields
+fields_listed object.VersionFile = version_fields
+fields_listed object.CategoriesFile = categories_fields
+fields_listed object.Category = category_fields
+fields_listed object.DictionaryFile = dictionary_fields
+fields_listed object.DictionaryEntry = dictionary_entry_fields
+fields_listed object.TypeTable = type_table_fields
+fields_listed object.Type = type_fields
+fields_listed (object.ItemFile side core) = object_item_fields
+fields_listed object.Constraints = constraints_fields
+fields_listed object.ProfileFile = profile_fields
+fields_listed object.Annotations = annotations_fields
+fields_listed object.IncludeFile = include_fields
+fields_listed object.Entry = entry_fields
+fields_listed object.EnumMember = enum_member_fields
+fields_listed object.ExtensionFile = extension_fields
+fields_listed object.Change = change_fields
+fields_listed _ = []
+
 -- of the member of that name
 abbrev pub member_wanted : Objects → List ℕ → Option Wanted
-member_wanted object.VersionFile = field_of version_fields
-member_wanted object.CategoriesFile = field_of categories_fields
 member_wanted object.Categories = named_entry object.Category
-member_wanted object.Category = field_of category_fields
-member_wanted object.DictionaryFile = field_of dictionary_fields
 member_wanted object.DictionaryEntries = named_entry object.DictionaryEntry
-member_wanted object.DictionaryEntry = field_of dictionary_entry_fields
-member_wanted object.TypeTable = field_of type_table_fields
 member_wanted object.Types = named_entry object.Type
-member_wanted object.Type = field_of type_fields
-member_wanted (object.ItemFile side core) = field_of (item_fields side)
-member_wanted object.Constraints = field_of constraints_fields
 member_wanted object.ItemEntries = item_entry_at
-member_wanted object.ProfileFile = field_of profile_fields
-member_wanted object.Annotations = field_of annotations_fields
-member_wanted object.IncludeFile = field_of include_fields
 member_wanted object.LayerEntries = layer_entry_at
-member_wanted object.Entry = field_of entry_fields
 member_wanted object.EnumMembers = enum_member_at
-member_wanted object.EnumMember = field_of enum_member_fields
-member_wanted object.ExtensionFile = field_of extension_fields
-member_wanted object.Change = field_of change_fields
+member_wanted (object.ItemFile side core) = field_of (item_fields side)
+member_wanted wanted = field_of (fields_listed wanted)
 
 -- `null` counts as absent, except as an entry and in a change
 abbrev pub has_null_entries : Objects → Bool
@@ -325,10 +332,6 @@ has_null_entries object.ItemEntries = true
 has_null_entries object.LayerEntries = true
 has_null_entries object.Change = true
 has_null_entries _ = false
-
-abbrev pub is_null : Tree-F Tree Member → Bool
-is_null Tree-F.Null = true
-is_null _ = false
 
 abbrev pub counts : Objects → List ℕ → Tree-F Tree Member → Bool
 counts wanted name t = not (is_null t) || (has_null_entries wanted && not (is_include name))

@@ -1,263 +1,175 @@
 // What is wanted of the members of an object.
-ghost use Rattle.std.specs.Prelude.{◌≡◌};
-ghost use Rattle.ocsf_raw.specs.Wanted.{whole_in, field_of, version_fields, category_fields, dictionary_fields, dictionary_entry_fields, type_fields, object_item_fields, constraints_fields, profile_fields, annotations_fields, entry_fields, enum_member_fields, extension_fields, change_fields, categories_fields, type_table_fields, include_fields, item_fields, named_entry, is_include, item_entry_at, layer_entry_at, enum_member_at, member_wanted, item_wanted, has_null_entries};
+ghost use Rattle.std.specs.Prelude.{◌≡◌, map};
+ghost use Rattle.ocsf_raw.specs.Wanted.{field_of, fields_listed, item_fields, named_entry, is_include, item_entry_at};
+ghost use Rattle.ocsf_raw.specs.Wanted.{layer_entry_at, enum_member_at, member_wanted, item_wanted, has_null_entries};
 
 use crate::names::is_name;
 use crate::wanted::{Listed, Object, Plain, Wanted};
 use crate::what::What;
 use ocsf_tree::{Side, Span};
 
-fn whole_in(low: u64, high: u64) -> Wanted
-    ensures { result ≡ whole_in low high }
+const TEXT: Wanted = Wanted::Plain(Plain::Text);
+
+const FLAG: Wanted = Wanted::Plain(Plain::Flag);
+
+const NAME: Wanted = Wanted::Plain(Plain::Name);
+
+const NAMES: Wanted = Wanted::Listed(Listed::Names);
+
+const REFERENCE: Wanted = Wanted::Plain(Plain::Reference);
+
+const REQUIREMENT: Wanted = Wanted::Plain(Plain::Requirement);
+
+const ENUM: Wanted = Wanted::Object(Object::EnumMembers);
+
+const UID: Wanted = Wanted::Plain(Plain::WholeIn(Span { low: 0, high: 999 }));
+
+const VERSION: [(&str, Wanted); 1] = [("version", TEXT)];
+
+const CATEGORIES: [(&str, Wanted); 1] = [("attributes", Wanted::Object(Object::Categories))];
+
+const CATEGORY: [(&str, Wanted); 3] = [
+    ("caption", TEXT),
+    ("description", TEXT),
+    (
+        "uid",
+        Wanted::Plain(Plain::WholeIn(Span { low: 0, high: 99 })),
+    ),
+];
+
+const DICTIONARY: [(&str, Wanted); 2] = [
+    ("attributes", Wanted::Object(Object::DictionaryEntries)),
+    ("types", Wanted::Object(Object::TypeTable)),
+];
+
+const DICTIONARY_ENTRY: [(&str, Wanted); 6] = [
+    ("caption", TEXT),
+    ("description", TEXT),
+    ("enum", ENUM),
+    ("is_array", FLAG),
+    ("sibling", NAME),
+    ("type", REFERENCE),
+];
+
+const TYPE_TABLE: [(&str, Wanted); 1] = [("attributes", Wanted::Object(Object::Types))];
+
+const TYPE: [(&str, Wanted); 7] = [
+    ("caption", TEXT),
+    ("description", TEXT),
+    (
+        "max_len",
+        Wanted::Plain(Plain::WholeIn(Span {
+            low: 0,
+            high: 9223372036854775807,
+        })),
+    ),
+    ("range", Wanted::Listed(Listed::Range)),
+    ("regex", Wanted::Plain(Plain::Pattern)),
+    ("type", NAME),
+    ("values", Wanted::Listed(Listed::Values)),
+];
+
+const ITEM: [(&str, Wanted); 8] = [
+    ("attributes", Wanted::Object(Object::ItemEntries)),
+    ("caption", TEXT),
+    ("category", REFERENCE),
+    ("constraints", Wanted::Object(Object::Constraints)),
+    ("description", TEXT),
+    ("extends", REFERENCE),
+    ("name", NAME),
+    ("profiles", Wanted::Listed(Listed::References)),
+];
+
+const CONSTRAINTS: [(&str, Wanted); 2] = [("at_least_one", NAMES), ("just_one", NAMES)];
+
+const PROFILE: [(&str, Wanted); 5] = [
+    ("annotations", Wanted::Object(Object::Annotations)),
+    ("attributes", Wanted::Object(Object::LayerEntries)),
+    ("caption", TEXT),
+    ("description", TEXT),
+    ("name", NAME),
+];
+
+const ANNOTATIONS: [(&str, Wanted); 2] = [("group", TEXT), ("requirement", REQUIREMENT)];
+
+const INCLUDE: [(&str, Wanted); 1] = [("attributes", Wanted::Object(Object::LayerEntries))];
+
+const ENTRY: [(&str, Wanted); 9] = [
+    ("caption", TEXT),
+    ("description", TEXT),
+    ("enum", ENUM),
+    ("group", TEXT),
+    ("is_array", FLAG),
+    ("profile", Wanted::Plain(Plain::Mark)),
+    ("requirement", REQUIREMENT),
+    ("sibling", NAME),
+    ("type", REFERENCE),
+];
+
+const ENUM_MEMBER: [(&str, Wanted); 2] = [("caption", TEXT), ("description", TEXT)];
+
+const EXTENSION: [(&str, Wanted); 4] = [
+    ("caption", TEXT),
+    ("name", NAME),
+    (
+        "uid",
+        Wanted::Plain(Plain::WholeIn(Span { low: 1, high: 999 })),
+    ),
+    ("version", TEXT),
+];
+
+const CHANGE: [(&str, Wanted); 4] = [
+    ("disable", NAME),
+    ("enable", NAME),
+    ("put", TEXT),
+    ("remove", TEXT),
+];
+
+const NOTHING: [(&str, Wanted); 0] = [];
+
+// What the first row of that name says.
+fn field_of(mut rows: &[(&str, Wanted)], name: &str) -> Option<Wanted>
+    ensures { result ≡ field_of (map (λ row. (row.0.now, row.1)) rows.entry.now) name.now }
 {
-    Wanted::Plain(Plain::WholeIn(Span {
-        low: low as i128,
-        high: high as i128,
-    }))
+    while let [row, rest @ ..] = rows {
+        if name == row.0 {
+            return Some(row.1);
+        }
+        rows = rest;
+    }
+    None
 }
 
-fn version_field(name: &str) -> Option<Wanted>
-    ensures { result ≡ field_of version_fields name.now }
+// The members that an object of that kind has, but for those that go from names to entries. The `uid` of a
+// class isn't among them.
+fn listed(wanted: Object) -> &'static [(&'static str, Wanted)]
+    ensures { map (λ row. (row.0.now, row.1)) result.now ≡ fields_listed wanted }
 {
-    if name == "version" {
-        Some(Wanted::Plain(Plain::Text))
-    } else {
-        None
+    match wanted {
+        Object::ItemFile(_, _) => &ITEM,
+        Object::VersionFile => &VERSION,
+        Object::CategoriesFile => &CATEGORIES,
+        Object::Category => &CATEGORY,
+        Object::DictionaryFile => &DICTIONARY,
+        Object::DictionaryEntry => &DICTIONARY_ENTRY,
+        Object::TypeTable => &TYPE_TABLE,
+        Object::Type => &TYPE,
+        Object::Constraints => &CONSTRAINTS,
+        Object::ProfileFile => &PROFILE,
+        Object::Annotations => &ANNOTATIONS,
+        Object::IncludeFile => &INCLUDE,
+        Object::Entry => &ENTRY,
+        Object::EnumMember => &ENUM_MEMBER,
+        Object::ExtensionFile => &EXTENSION,
+        Object::Change => &CHANGE,
+        _ => &NOTHING,
     }
 }
 
-fn category_field(name: &str) -> Option<Wanted>
-    ensures { result ≡ field_of category_fields name.now }
+fn listed_field(wanted: Object, name: &str) -> Option<Wanted>
+    ensures { result ≡ field_of (fields_listed wanted) name.now }
 {
-    if name == "caption" {
-        Some(Wanted::Plain(Plain::Text))
-    } else if name == "description" {
-        Some(Wanted::Plain(Plain::Text))
-    } else if name == "uid" {
-        Some(whole_in(0, 99))
-    } else {
-        None
-    }
-}
-
-fn dictionary_field(name: &str) -> Option<Wanted>
-    ensures { result ≡ field_of dictionary_fields name.now }
-{
-    if name == "attributes" {
-        Some(Wanted::Object(Object::DictionaryEntries))
-    } else if name == "types" {
-        Some(Wanted::Object(Object::TypeTable))
-    } else {
-        None
-    }
-}
-
-fn dictionary_entry_field(name: &str) -> Option<Wanted>
-    ensures { result ≡ field_of dictionary_entry_fields name.now }
-{
-    if name == "caption" {
-        Some(Wanted::Plain(Plain::Text))
-    } else if name == "description" {
-        Some(Wanted::Plain(Plain::Text))
-    } else if name == "enum" {
-        Some(Wanted::Object(Object::EnumMembers))
-    } else if name == "is_array" {
-        Some(Wanted::Plain(Plain::Flag))
-    } else if name == "sibling" {
-        Some(Wanted::Plain(Plain::Name))
-    } else if name == "type" {
-        Some(Wanted::Plain(Plain::Reference))
-    } else {
-        None
-    }
-}
-
-fn type_field(name: &str) -> Option<Wanted>
-    ensures { result ≡ field_of type_fields name.now }
-{
-    if name == "caption" {
-        Some(Wanted::Plain(Plain::Text))
-    } else if name == "description" {
-        Some(Wanted::Plain(Plain::Text))
-    } else if name == "max_len" {
-        Some(whole_in(0, 9223372036854775807))
-    } else if name == "range" {
-        Some(Wanted::Listed(Listed::Range))
-    } else if name == "regex" {
-        Some(Wanted::Plain(Plain::Pattern))
-    } else if name == "type" {
-        Some(Wanted::Plain(Plain::Name))
-    } else if name == "values" {
-        Some(Wanted::Listed(Listed::Values))
-    } else {
-        None
-    }
-}
-
-fn object_item_field(name: &str) -> Option<Wanted>
-    ensures { result ≡ field_of object_item_fields name.now }
-{
-    if name == "attributes" {
-        Some(Wanted::Object(Object::ItemEntries))
-    } else if name == "caption" {
-        Some(Wanted::Plain(Plain::Text))
-    } else if name == "category" {
-        Some(Wanted::Plain(Plain::Reference))
-    } else if name == "constraints" {
-        Some(Wanted::Object(Object::Constraints))
-    } else if name == "description" {
-        Some(Wanted::Plain(Plain::Text))
-    } else if name == "extends" {
-        Some(Wanted::Plain(Plain::Reference))
-    } else if name == "name" {
-        Some(Wanted::Plain(Plain::Name))
-    } else if name == "profiles" {
-        Some(Wanted::Listed(Listed::References))
-    } else {
-        None
-    }
-}
-
-fn constraints_field(name: &str) -> Option<Wanted>
-    ensures { result ≡ field_of constraints_fields name.now }
-{
-    if name == "at_least_one" {
-        Some(Wanted::Listed(Listed::Names))
-    } else if name == "just_one" {
-        Some(Wanted::Listed(Listed::Names))
-    } else {
-        None
-    }
-}
-
-fn profile_field(name: &str) -> Option<Wanted>
-    ensures { result ≡ field_of profile_fields name.now }
-{
-    if name == "annotations" {
-        Some(Wanted::Object(Object::Annotations))
-    } else if name == "attributes" {
-        Some(Wanted::Object(Object::LayerEntries))
-    } else if name == "caption" {
-        Some(Wanted::Plain(Plain::Text))
-    } else if name == "description" {
-        Some(Wanted::Plain(Plain::Text))
-    } else if name == "name" {
-        Some(Wanted::Plain(Plain::Name))
-    } else {
-        None
-    }
-}
-
-fn annotations_field(name: &str) -> Option<Wanted>
-    ensures { result ≡ field_of annotations_fields name.now }
-{
-    if name == "group" {
-        Some(Wanted::Plain(Plain::Text))
-    } else if name == "requirement" {
-        Some(Wanted::Plain(Plain::Requirement))
-    } else {
-        None
-    }
-}
-
-fn entry_field(name: &str) -> Option<Wanted>
-    ensures { result ≡ field_of entry_fields name.now }
-{
-    if name == "caption" {
-        Some(Wanted::Plain(Plain::Text))
-    } else if name == "description" {
-        Some(Wanted::Plain(Plain::Text))
-    } else if name == "enum" {
-        Some(Wanted::Object(Object::EnumMembers))
-    } else if name == "group" {
-        Some(Wanted::Plain(Plain::Text))
-    } else if name == "is_array" {
-        Some(Wanted::Plain(Plain::Flag))
-    } else if name == "profile" {
-        Some(Wanted::Plain(Plain::Mark))
-    } else if name == "requirement" {
-        Some(Wanted::Plain(Plain::Requirement))
-    } else if name == "sibling" {
-        Some(Wanted::Plain(Plain::Name))
-    } else if name == "type" {
-        Some(Wanted::Plain(Plain::Reference))
-    } else {
-        None
-    }
-}
-
-fn enum_member_field(name: &str) -> Option<Wanted>
-    ensures { result ≡ field_of enum_member_fields name.now }
-{
-    if name == "caption" {
-        Some(Wanted::Plain(Plain::Text))
-    } else if name == "description" {
-        Some(Wanted::Plain(Plain::Text))
-    } else {
-        None
-    }
-}
-
-fn extension_field(name: &str) -> Option<Wanted>
-    ensures { result ≡ field_of extension_fields name.now }
-{
-    if name == "caption" {
-        Some(Wanted::Plain(Plain::Text))
-    } else if name == "name" {
-        Some(Wanted::Plain(Plain::Name))
-    } else if name == "uid" {
-        Some(whole_in(1, 999))
-    } else if name == "version" {
-        Some(Wanted::Plain(Plain::Text))
-    } else {
-        None
-    }
-}
-
-fn change_field(name: &str) -> Option<Wanted>
-    ensures { result ≡ field_of change_fields name.now }
-{
-    if name == "disable" {
-        Some(Wanted::Plain(Plain::Name))
-    } else if name == "enable" {
-        Some(Wanted::Plain(Plain::Name))
-    } else if name == "put" {
-        Some(Wanted::Plain(Plain::Text))
-    } else if name == "remove" {
-        Some(Wanted::Plain(Plain::Text))
-    } else {
-        None
-    }
-}
-
-fn categories_field(name: &str) -> Option<Wanted>
-    ensures { result ≡ field_of categories_fields name.now }
-{
-    if name == "attributes" {
-        Some(Wanted::Object(Object::Categories))
-    } else {
-        None
-    }
-}
-
-fn type_table_field(name: &str) -> Option<Wanted>
-    ensures { result ≡ field_of type_table_fields name.now }
-{
-    if name == "attributes" {
-        Some(Wanted::Object(Object::Types))
-    } else {
-        None
-    }
-}
-
-fn include_field(name: &str) -> Option<Wanted>
-    ensures { result ≡ field_of include_fields name.now }
-{
-    if name == "attributes" {
-        Some(Wanted::Object(Object::LayerEntries))
-    } else {
-        None
-    }
+    field_of(listed(wanted), name)
 }
 
 fn item_field(side: Side, name: &str) -> Option<Wanted>
@@ -265,11 +177,11 @@ fn item_field(side: Side, name: &str) -> Option<Wanted>
 {
     match side {
         Side::Class => if name == "uid" {
-            Some(whole_in(0, 999))
+            Some(UID)
         } else {
-            object_item_field(name)
+            listed_field(Object::ItemFile(side, false), name)
         },
-        Side::Object => object_item_field(name),
+        Side::Object => listed_field(Object::ItemFile(side, false), name),
     }
 }
 
@@ -325,28 +237,14 @@ pub fn member_wanted(wanted: Object, name: &str) -> Option<Wanted>
     ensures { result ≡ member_wanted wanted name.now }
 {
     match wanted {
-        Object::VersionFile => version_field(name),
-        Object::CategoriesFile => categories_field(name),
         Object::Categories => named_entry(Object::Category, name),
-        Object::Category => category_field(name),
-        Object::DictionaryFile => dictionary_field(name),
         Object::DictionaryEntries => named_entry(Object::DictionaryEntry, name),
-        Object::DictionaryEntry => dictionary_entry_field(name),
-        Object::TypeTable => type_table_field(name),
         Object::Types => named_entry(Object::Type, name),
-        Object::Type => type_field(name),
-        Object::ItemFile(side, _) => item_field(side, name),
-        Object::Constraints => constraints_field(name),
         Object::ItemEntries => item_entry_at(name),
-        Object::ProfileFile => profile_field(name),
-        Object::Annotations => annotations_field(name),
-        Object::IncludeFile => include_field(name),
         Object::LayerEntries => layer_entry_at(name),
-        Object::Entry => entry_field(name),
         Object::EnumMembers => enum_member_at(name),
-        Object::EnumMember => enum_member_field(name),
-        Object::ExtensionFile => extension_field(name),
-        Object::Change => change_field(name),
+        Object::ItemFile(side, _) => item_field(side, name),
+        _ => listed_field(wanted, name),
     }
 }
 

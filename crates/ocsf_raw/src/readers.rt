@@ -4,8 +4,7 @@ ghost use Rattle.std.specs.Option.{option_copied};
 ghost use Rattle.std.specs.List.{filter_map};
 ghost use Rattle.ocsf_tree.specs.declared.tree.Tree.{out-Tree};
 ghost use Rattle.ocsf_tree.specs.Valid.{IsValid, IsValidMembers};
-ghost use Rattle.ocsf_raw.specs.Members.{text_of, text_at, requirement_named};
-ghost use Rattle.ocsf_raw.specs.Wanted.{is_null};
+ghost use Rattle.ocsf_tree.specs.Lookup.{text_of, text_at, is_null};
 ghost use Rattle.ocsf_raw.specs.Content.{flag_at, natural_below, natural_at, requirement_at, list_at, texts_in, texts_at, object_at, members_at, span_at, whole_pair, text_or_empty};
 
 use ocsf_tree::{Member, Requirement, Row, Span, Text, Tree, TryClone};
@@ -116,26 +115,12 @@ pub fn length_at(tree: &Tree, name: &str) -> Option<u64>
     }
 }
 
-pub fn requirement_named(text: &str) -> Option<Requirement>
-    ensures { result ≡ requirement_named text.now }
-{
-    if text == "required" {
-        Some(Requirement::Required)
-    } else if text == "recommended" {
-        Some(Requirement::Recommended)
-    } else if text == "optional" {
-        Some(Requirement::Optional)
-    } else {
-        None
-    }
-}
-
 pub fn requirement_at(tree: &Tree, name: &str) -> Option<Requirement>
     requires { IsValid tree.now }
     ensures { result ≡ requirement_at name.now tree.now }
 {
     match text_at(name, tree) {
-        Some(text) => requirement_named(text.as_str()),
+        Some(text) => Requirement::named(text.as_str()),
         None => None,
     }
 }

@@ -77,14 +77,6 @@ fn fold(alloc: Global, table: &mut Table, layer: &str) -> Result<(), AllocError>
 
 // ---- how an attribute is written down: what is said of it, field by field
 
-fn requirement_word(requirement: Requirement) -> &'static str {
-    match requirement {
-        Requirement::Required => "required",
-        Requirement::Recommended => "recommended",
-        Requirement::Optional => "optional",
-    }
-}
-
 fn push_field(out: &mut String, label: &str, word: &str, from: &str) -> Result<(), AllocError> {
     out.push(' ')?;
     out.push_str(label)?;
@@ -126,7 +118,7 @@ fn push_rest(out: &mut String, row: &Spoken) -> Result<(), AllocError> {
         push_field(out, "sibling=", sibling.as_str(), "")?;
     }
     if let Some(requirement) = attr.requirement {
-        push_field(out, requirement_word(requirement), "", "")?;
+        push_field(out, requirement.as_str(), "", "")?;
     }
     push_mark(out, row)
 }

@@ -1,6 +1,6 @@
 -- Two bundles that show the same at some cells.
 use Rattle.std.proofs.Common.{◌≡◌, ℕ, zero, suc, List, [], ◌∷◌, ◌++◌, map, true, false, cond, Option, Some, None, unwrap_or, if◌then◌else◌, refl, sym, ◌∙◌, ap, subst, reverse, arith}
-use Rattle.std.specs.Prelude.{flat_map, take, All}
+use Rattle.std.specs.Prelude.{flat_map, take}
 use Rattle.std.specs.List.{filter_map, AllByRecursion}
 use Rattle.std.specs.Option.{option_and_then}
 use Rattle.std.proofs.lemmas.List.{reverse-append}
@@ -13,9 +13,7 @@ use Rattle.ocsf_bundle.specs.Looks.{Looks, look, is_there, PatchOf, Included, As
 use Rattle.ocsf_bundle.specs.declared.cells.Cell.{Cell}
 use Rattle.ocsf_bundle.specs.declared.cells.Cell.TheVariants as cell
 use Rattle.ocsf_rules.specs.Names.{is_shown, found, tried}
-
-abbrev pub Agree : Looks → Looks → List Cell → Type 0
-Agree b c cells = AllByRecursion (λ x. look b x ≡ look c x) cells
+use Rattle.ocsf_rule_laws.specs.LookLaws.{AgreeAt}
 
 -- ---- lists
 
@@ -44,10 +42,6 @@ module _ {X : Type 0} (P : X → Type 0) where
   pub each : {Y : Type 0} (f : Y → List X) (ys : List Y) → AllByRecursion P (flat_map f ys) → AllByRecursion (λ y. AllByRecursion P (f y)) ys
   each f [] all = tt
   each f (y ∷ ys) all = (left (f y) (flat_map f ys) all, each f ys (right (f y) (flat_map f ys) all))
-
-  pub all_by_recursion : (xs : List X) → All P xs → AllByRecursion P xs
-  all_by_recursion [] all = tt
-  all_by_recursion (x ∷ xs) all = (all 0 x (omega arith), all_by_recursion xs (λ k d l. all (suc k) d (omega arith)))
 
 pub weaker : {X : Type 0} (P Q : X → Type 0) → ((x : X) → P x → Q x) → (xs : List X) → AllByRecursion P xs → AllByRecursion Q xs
 weaker P Q to [] all = tt
@@ -161,32 +155,32 @@ module _ (b c : Looks) where
 
   -- ---- what is found
 
-  pub same_found : (cells : List Cell) → Agree b c (tried b cells) → found b cells ≡ found c cells
+  pub same_found : (cells : List Cell) → AgreeAt b c (tried b cells) → found b cells ≡ found c cells
   same_found [] agree = refl
   same_found (x ∷ cells) agree =
-      elim (is_shown b x) as (λ t. is_shown b x ≡ t → Agree b c (if t then x ∷ [] else x ∷ tried b cells) → cond t (Some x) (found b cells) ≡ cond (is_shown c x) (Some x) (found c cells)) [
+      elim (is_shown b x) as (λ t. is_shown b x ≡ t → AgreeAt b c (if t then x ∷ [] else x ∷ tried b cells) → cond t (Some x) (found b cells) ≡ cond (is_shown c x) (Some x) (found c cells)) [
         | true ↦ λ t a. ap (λ h. cond h (Some x) (found c cells)) (sym t ∙ ap is_there a.0)
         | false ↦ λ t a. same_found cells a.1 ∙ ap (λ h. cond h (Some x) (found c cells)) (sym t ∙ ap is_there a.0)
       ] refl agree
 
-  pub same_tried : (cells : List Cell) → Agree b c (tried b cells) → tried b cells ≡ tried c cells
+  pub same_tried : (cells : List Cell) → AgreeAt b c (tried b cells) → tried b cells ≡ tried c cells
   same_tried [] agree = refl
   same_tried (x ∷ cells) agree =
-      elim (is_shown b x) as (λ t. is_shown b x ≡ t → Agree b c (if t then x ∷ [] else x ∷ tried b cells) → (if t then x ∷ [] else x ∷ tried b cells) ≡ (if is_shown c x then x ∷ [] else x ∷ tried c cells)) [
+      elim (is_shown b x) as (λ t. is_shown b x ≡ t → AgreeAt b c (if t then x ∷ [] else x ∷ tried b cells) → (if t then x ∷ [] else x ∷ tried b cells) ≡ (if is_shown c x then x ∷ [] else x ∷ tried c cells)) [
         | true ↦ λ t a. ap (λ h. if h then x ∷ [] else x ∷ tried c cells) (sym t ∙ ap is_there a.0)
         | false ↦ λ t a. ap (λ ys. x ∷ ys) (same_tried cells a.1) ∙ ap (λ h. if h then x ∷ [] else x ∷ tried c cells) (sym t ∙ ap is_there a.0)
       ] refl agree
 
-  at_found : (cells : List Cell) → Agree b c (tried b cells) → (x : Cell) → found b cells ≡ Some x → look b x ≡ look c x
+  at_found : (cells : List Cell) → AgreeAt b c (tried b cells) → (x : Cell) → found b cells ≡ Some x → look b x ≡ look c x
   at_found [] agree x e = cc
   at_found (y ∷ cells) agree x e =
-      elim (is_shown b y) as (λ t. Agree b c (if t then y ∷ [] else y ∷ tried b cells) → cond t (Some y) (found b cells) ≡ Some x → look b x ≡ look c x) [
+      elim (is_shown b y) as (λ t. AgreeAt b c (if t then y ∷ [] else y ∷ tried b cells) → cond t (Some y) (found b cells) ≡ Some x → look b x ≡ look c x) [
         | true ↦ λ a f. subst (λ z. look b z ≡ look c z) (ap (λ o. unwrap_or o y) f) a.0
         | false ↦ λ a f. at_found cells a.1 x f
       ] agree e
 
   -- and whatever is made of it
-  pub same_from_found : {X : Type 0} (f g : Cell → Option X) → ((x : Cell) → look b x ≡ look c x → f x ≡ g x) → (cells : List Cell) → Agree b c (tried b cells)
+  pub same_from_found : {X : Type 0} (f g : Cell → Option X) → ((x : Cell) → look b x ≡ look c x → f x ≡ g x) → (cells : List Cell) → AgreeAt b c (tried b cells)
       → option_and_then f (found b cells) ≡ option_and_then g (found c cells)
   same_from_found f g same cells agree =
       elim (found b cells) as (λ o. found b cells ≡ o → option_and_then f o ≡ option_and_then g o) [

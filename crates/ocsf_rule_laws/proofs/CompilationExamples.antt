@@ -15,7 +15,8 @@ use Rattle.ocsf_raw.specs.declared.files.RawFile.TheVariants as raw
 use Rattle.ocsf_schema.specs.declared.records.Item.{Item}
 use Rattle.ocsf_schema.specs.declared.records.Target.{Target}
 use Rattle.ocsf_schema.specs.declared.records.Target.TheVariants as target
-use Rattle.ocsf_schema.specs.Schema.{schema_text, fragments, same_side}
+use Rattle.ocsf_schema.specs.Schema.{schema_text, fragments}
+use Rattle.ocsf_tree.specs.Key.{same_side}
 use Rattle.ocsf_bundle.specs.declared.stored.StoredFile.{StoredFile}
 use Rattle.ocsf_bundle.specs.Stored.{Stored}
 use Rattle.ocsf_bundle.specs.Looks.{Looks}

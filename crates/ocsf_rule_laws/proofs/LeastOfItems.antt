@@ -1,14 +1,11 @@
 -- The least fault of several items, by groups and by items.
-use Rattle.std.proofs.Common.{◌≡◌, ℕ, ◌<◌, ◌≤◌, List, [], ◌∷◌, ◌++◌, Bool, true, false, if◌then◌else◌, Option, Some, None, refl, sym, ◌∙◌, ap, subst, arith}
-use Rattle.std.specs.Prelude.{nat_le, nat_lt, ◌==◌, ⊤, flat_map, filter_map, length, is_some, is_none, codes}
-use Rattle.std.specs.Option.{option_or, option_map_or}
-use Rattle.std.specs.List.{list_all, cons_option}
-use Rattle.std.specs.declared.cmp.Ordering.{Ordering}
-use Rattle.std.specs.declared.cmp.Ordering.TheVariants.{Less, Equal, Greater}
-use Rattle.std.specs.Ordering.{is_lt, is_gt, nat_cmp, ordering_then, ordering_reverse}
-use Rattle.std.proofs.lemmas.Bool.{leb-true, ltb-true, lt-ltb, ne_eqb, and_parts}
+use Rattle.std.proofs.Common.{◌≡◌, ℕ, List, [], ◌∷◌, ◌++◌, Bool, true, false, if◌then◌else◌, Option, Some, None, refl, sym, ◌∙◌, ap}
+use Rattle.std.specs.Prelude.{nat_le, nat_lt, ◌==◌, flat_map, filter_map, length, is_some, is_none, codes}
+use Rattle.std.specs.Option.{IfSome, option_or, option_map_or}
+use Rattle.std.specs.List.{list_all}
+use Rattle.std.proofs.lemmas.Bool.{leb-true, ltb-true}
 use Rattle.std.proofs.lemmas.List.Folds.{list_all-append}
-use Rattle.std.proofs.lemmas.Cmp.{upto}
+use Rattle.std.proofs.lemmas.List.Sums.{AllPass-from_list_all}
 use Rattle.ocsf_tree.specs.declared.fault.Fault.{Fault}
 use Rattle.ocsf_tree.specs.declared.fault.Code.{Code}
 use Rattle.ocsf_tree.specs.declared.fault.Code.TheVariants as code
@@ -30,88 +27,14 @@ use Rattle.ocsf_rules.specs.Compiled.{uid, written_category, category, at_least_
 use Rattle.ocsf_rules.specs.ItemFaults.{fault, cycle_in, cycle_fault, parent_fault, limit_fault, chain_faults, unknown_profile, mark_fault, entry_fault, layer_faults, unknown_include, include_faults, listed_faults, speaker_faults, layers_faults, type_text, attribute_fault, category_fault, constraint_fault, is_small_decimal, activity_fault, activity_faults, size_fault, own_faults, item_fault}
 use Rattle.ocsf_rules.specs.SchemaFaults.{schema_faults}
 use Rattle.ocsf_rule_laws.specs.VerdictLaws.{LeastIsOfItems}
-use Rattle.ocsf_tree.specs.ByName.{text_cmp}
-use Rattle.ocsf_tree.specs.LeastFault.{rank, fault_cmp, lesser_fault, least_from, least_fault}
-use Rattle.ocsf_tree.proofs.LeastFaults.{fault_cmp_total, least_from-append}
-
--- ---- the lesser of two
-
-abbrev comes_first : Fault → Fault → Bool
-comes_first f g = is_lt (fault_cmp f g)
-
-is_less : (r : Ordering) → is_lt r ≡ true → r ≡ Less
-is_less Less e = refl
-is_less Equal e = cc
-is_less Greater e = cc
-
-first_of_three : (f g h : Fault) → comes_first f g ≡ true → comes_first g h ≡ true → comes_first f h ≡ true
-first_of_three f g h a b = ap is_lt (fault_cmp_total.trans f g h (is_less (fault_cmp f g) a) (is_less (fault_cmp g h) b))
-
-lt_flipped : (r : Ordering) → is_lt (ordering_reverse r) ≡ is_gt r
-lt_flipped Less = refl
-lt_flipped Equal = refl
-lt_flipped Greater = refl
-
-flipped : (f g : Fault) → comes_first g f ≡ is_gt (fault_cmp f g)
-flipped f g = ap is_lt (fault_cmp_total.antisymm g f) ∙ lt_flipped (fault_cmp f g)
-
-not_first_of_three : (f g h : Fault) → comes_first g f ≡ false → comes_first h g ≡ false → comes_first h f ≡ false
-not_first_of_three f g h a b = flipped f h ∙ upto fault_cmp_total f g h (sym (flipped f g) ∙ a) (sym (flipped g h) ∙ b)
+use Rattle.ocsf_tree.specs.Least.{lesser}
+use Rattle.ocsf_tree.specs.LeastFault.{rank, comes_before, least_fault}
+use Rattle.ocsf_tree.proofs.Leasts as least
+use Rattle.ocsf_tree.proofs.Leasts.{least-append, least-cons, lesser-groups}
+use Rattle.ocsf_tree.proofs.LeastFaults.{faults_rank, parted_by}
 
 abbrev join : Option Fault → Option Fault → Option Fault
-join least None = least
-join least (Some f) = lesser_fault least f
-
-abbrev chosen : Bool → Fault → Fault → Fault
-chosen b f g = if b then f else g
-
-abbrev of_two : Fault → Fault → Fault
-of_two g f = chosen (comes_first f g) f g
-
-chosen_is : (b : Bool) (f g : Fault) → (if b then Some f else Some g) ≡ Some (chosen b f g)
-chosen_is true f g = refl
-chosen_is false f g = refl
-
-join_is : (g f : Fault) → lesser_fault (Some g) f ≡ Some (of_two g f)
-join_is g f = chosen_is (comes_first f g) f g
-
--- by which of them comes first
-three : (f g h : Fault) (a b c : Bool) → comes_first g f ≡ a → comes_first h g ≡ b → comes_first h f ≡ c
-    → chosen (comes_first h (chosen a g f)) h (chosen a g f) ≡ chosen (comes_first (chosen b h g) f) (chosen b h g) f
-three f g h true true c x y z = rw (y, first_of_three h g f y x) refl
-three f g h true false c x y z = rw (y, x) refl
-three f g h false true c x y z = refl
-three f g h false false c x y z = rw (x, not_first_of_three f g h x y) refl
-
-of_three : (f g h : Fault) → of_two (of_two f g) h ≡ of_two f (of_two g h)
-of_three f g h = three f g h (comes_first g f) (comes_first h g) (comes_first h f) refl refl refl
-
-join_first : (a : Option Fault) → join None a ≡ a
-join_first None = refl
-join_first (Some f) = refl
-
-join_three : (a b c : Option Fault) → join (join a b) c ≡ join a (join b c)
-join_three a b None = refl
-join_three a None (Some h) = refl
-join_three None (Some g) (Some h) = sym (join_first (lesser_fault (Some g) h))
-join_three (Some f) (Some g) (Some h) =
-    ap (λ o. lesser_fault o h) (join_is f g) ∙ join_is (of_two f g) h ∙ ap Some (of_three f g h) ∙ sym (join_is f (of_two g h)) ∙ ap (join (Some f)) (sym (join_is g h))
-
--- ---- the least of lists
-
-least_from-is : (least : Option Fault) (fs : List Fault) → least_from least fs ≡ join least (least_fault fs)
-least_from-is least [] = refl
-least_from-is least (f ∷ fs) =
-    least_from-is (lesser_fault least f) fs
-    ∙ join_three least (Some f) (least_fault fs)
-    ∙ ap (join least) (sym (least_from-is (Some f) fs))
-
-least-append : (fs gs : List Fault) → least_fault (fs ++ gs) ≡ join (least_fault fs) (least_fault gs)
-least-append fs gs = least_from-append None fs gs ∙ least_from-is (least_fault fs) gs
-
-least-cons : (o : Option Fault) (fs : List Fault) → least_fault (cons_option o fs) ≡ join o (least_fault fs)
-least-cons None fs = sym (join_first (least_fault fs))
-least-cons (Some f) fs = least_from-is (Some f) fs
+join = lesser comes_before
 
 -- ---- ranks
 
@@ -122,45 +45,16 @@ abbrev IsPast : ℕ → Fault → Bool
 IsPast n f = nat_lt n (rank f.code)
 
 abbrev Holds : (Fault → Bool) → Option Fault → Type 0
-Holds p None = ⊤
-Holds p (Some f) = p f ≡ true
+Holds p o = IfSome o (λ f. p f ≡ true)
 
-lower : (m n k : ℕ) → nat_le m n ≡ true → nat_lt n k ≡ true → m < k
-lower m n k a b = let c : m ≤ n = leb-true m n a in let d : n < k = ltb-true n k b in omega (arith, c, d)
-
-before : (m n : ℕ) → m < n → nat_cmp m n ≡ Less
-before m n h = let a : nat_lt m n ≡ true = lt-ltb m n h in rw a refl
-
-after : (m n : ℕ) → m < n → nat_cmp n m ≡ Greater
-after m n h =
-    let a : nat_lt n m ≡ false = grind (arith, h) in
-    let b : (n == m) ≡ false = ne_eqb n m (λ e. omega (arith, e)) in
-    rw (a, b) refl
-
-abbrev then_texts : Ordering → Fault → Fault → Bool
-then_texts r f g = is_lt (ordering_then r (ordering_then (text_cmp f.subject g.subject) (text_cmp f.name g.name)))
-
-earlier : (f g : Fault) → rank f.code < rank g.code → comes_first f g ≡ true
-earlier f g h = ap (λ (r : Ordering). then_texts r f g) (before (rank f.code) (rank g.code) h)
-
-later : (f g : Fault) → rank f.code < rank g.code → comes_first g f ≡ false
-later f g h = ap (λ (r : Ordering). then_texts r g f) (after (rank f.code) (rank g.code) h)
-
-takes_earlier : (f g : Fault) → rank f.code < rank g.code → lesser_fault (Some g) f ≡ Some f
-takes_earlier f g h = join_is g f ∙ ap (λ (b : Bool). Some (chosen b f g)) (earlier f g h)
-
-keeps_earlier : (f g : Fault) → rank f.code < rank g.code → lesser_fault (Some f) g ≡ Some f
-keeps_earlier f g h = join_is f g ∙ ap (λ (b : Bool). Some (chosen b g f)) (later f g h)
+apart : (n : ℕ) (f g : Fault) → IsUpTo n f ≡ true → IsPast n g ≡ true → comes_before f g ≡ true
+apart n f g low high = parted_by n f g (leb-true (rank f.code) n low) (ltb-true n (rank g.code) high)
 
 -- of faults of two groups the first group's least, item by item or all at once
 two_groups : (n : ℕ) (a b c d : Option Fault) → Holds (IsUpTo n) a → Holds (IsPast n) b → Holds (IsUpTo n) c → Holds (IsPast n) d
     → join (option_or a b) (option_or c d) ≡ option_or (join a c) (join b d)
-two_groups n None b None d w x y z = refl
-two_groups n None None (Some h) d w x y z = refl
-two_groups n None (Some g) (Some h) d w x y z = takes_earlier h g (lower (rank h.code) n (rank g.code) y x)
-two_groups n (Some f) b None None w x y z = refl
-two_groups n (Some f) b None (Some i) w x y z = keeps_earlier f i (lower (rank f.code) n (rank i.code) w z)
-two_groups n (Some f) b (Some h) d w x y z = join_is f h ∙ ap (λ o. option_or o (join b d)) (sym (join_is f h))
+two_groups n a b c d w x y z =
+    lesser-groups faults_rank (λ f. IsUpTo n f ≡ true) (λ g. IsPast n g ≡ true) (apart n) a b c d w x y z
 
 or_none : (a : Option Fault) → option_or a None ≡ a
 or_none None = refl
@@ -171,22 +65,8 @@ or_three None None c d = refl
 or_three None (Some g) c d = refl
 or_three (Some f) b c d = refl
 
--- ---- what holds of each fault of a list holds of the least
-
-of_chosen : (p : Fault → Bool) (b : Bool) (f g : Fault) → p f ≡ true → p g ≡ true → p (chosen b f g) ≡ true
-of_chosen p true f g x y = x
-of_chosen p false f g x y = y
-
-of_join : (p : Fault → Bool) (a : Option Fault) (f : Fault) → Holds p a → p f ≡ true → Holds p (lesser_fault a f)
-of_join p None f x y = y
-of_join p (Some g) f x y = subst (Holds p) (sym (join_is g f)) (of_chosen p (comes_first f g) f g y x)
-
-of_least_from : (p : Fault → Bool) (a : Option Fault) (fs : List Fault) → Holds p a → list_all p fs ≡ true → Holds p (least_from a fs)
-of_least_from p a [] x y = x
-of_least_from p a (f ∷ fs) x y = let parts = and_parts (p f) (list_all p fs) y in of_least_from p (lesser_fault a f) fs (of_join p a f x parts.0) parts.1
-
 of_least : (p : Fault → Bool) (fs : List Fault) → list_all p fs ≡ true → Holds p (least_fault fs)
-of_least p fs y = of_least_from p None fs tt y
+of_least p fs y = least.of_least faults_rank (λ f. p f ≡ true) fs (AllPass-from_list_all p fs y)
 
 of_or : (p : Fault → Bool) (a b : Option Fault) → Holds p a → Holds p b → Holds p (option_or a b)
 of_or p None b x y = y
@@ -249,14 +129,14 @@ module _ (chains layers owns : Key → List Fault)
       let o_high : Holds (IsPast 41) o = of_least (IsPast 41) (owns k) (high k) in
       let os_high : Holds (IsPast 41) os = of_least (IsPast 41) (flat_map owns ks) (all_over (IsPast 41) owns high ks) in
       let parts : of_groups (k ∷ ks) ≡ option_or (join c cs) (option_or (join l ls) (join o os)) =
-      rw (least-append (chains k) (flat_map chains ks), least-append (layers k) (flat_map layers ks), least-append (owns k) (flat_map owns ks)) refl in
+      rw (least-append faults_rank (chains k) (flat_map chains ks), least-append faults_rank (layers k) (flat_map layers ks), least-append faults_rank (owns k) (flat_map owns ks)) refl in
       parts
       ∙ ap (option_or (join c cs)) (sym (two_groups 41 l o ls os l_low o_high ls_low os_high))
       ∙ sym (two_groups 32 c (option_or l o) cs (option_or ls os) c_low (of_or (IsPast 32) l o l_past o_past) cs_low (of_or (IsPast 32) ls os ls_past os_past))
 
   by_items : (ks : List Key) → of_groups ks ≡ least_fault (filter_map of_item ks)
   by_items [] = refl
-  by_items (k ∷ ks) = first_with k ks ∙ ap (join (of_item k)) (by_items ks) ∙ sym (least-cons (of_item k) (filter_map of_item ks))
+  by_items (k ∷ ks) = first_with k ks ∙ ap (join (of_item k)) (by_items ks) ∙ sym (least-cons faults_rank (of_item k) (filter_map of_item ks))
 
 -- ---- the ranks of an item's faults
 

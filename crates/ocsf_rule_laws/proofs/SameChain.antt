@@ -10,28 +10,29 @@ use Rattle.ocsf_bundle.specs.declared.cells.Cell.TheVariants as cell
 use Rattle.ocsf_rules.specs.Names.{first_of, has_slash, ext_of, item_cells, item_at, tried}
 use Rattle.ocsf_rules.specs.Chain.{own_file, written_parent, parent_named, parent, from_there, keys_up, chain, patches_of, speakers_of, speakers, own_speaker, patch_speaker}
 use Rattle.ocsf_rules.specs.Reads.{key_reads, patches_reads, parent_reads}
-use Rattle.ocsf_rule_laws.proofs.Agreement.{Agree, left, right, each, weaker, all_reverse, same_flat_map, same_items, same_patches, same_from_found, same_tried}
+use Rattle.ocsf_rule_laws.proofs.Agreement.{left, right, each, weaker, all_reverse, same_flat_map, same_items, same_patches, same_from_found, same_tried}
+use Rattle.ocsf_rule_laws.specs.LookLaws.{AgreeAt}
 
 module _ (b c : Looks) where
   Same : Cell → Type 0
   Same x = look b x ≡ look c x
 
-  module _ (k : Key) (agree : Agree b c (key_reads b k)) where
+  module _ (k : Key) (agree : AgreeAt b c (key_reads b k)) where
     pub same_own_file : own_file b k ≡ own_file c k
     same_own_file = ap first_of (same_items b c k agree.0)
 
     pub same_written_parent : written_parent b k ≡ written_parent c k
     same_written_parent = ap (option_and_then (λ file. file.parent)) same_own_file
 
-    at_parent : Agree b c (parent_reads b k)
+    at_parent : AgreeAt b c (parent_reads b k)
     at_parent = right (λ x. look b x ≡ look c x) (patches_reads k) (parent_reads b k) agree.1
 
-    named : (name : List ℕ) → Agree b c (tried b (item_cells k.side (ext_of k.name) name)) → parent_named b k name ≡ parent_named c k name
+    named : (name : List ℕ) → AgreeAt b c (tried b (item_cells k.side (ext_of k.name) name)) → parent_named b k name ≡ parent_named c k name
     named name a = same_from_found b c item_at item_at (λ x e. refl) (item_cells k.side (ext_of k.name) name) a
 
     pub same_parent : parent b k ≡ parent c k
     same_parent =
-        elim (written_parent b k) as (λ o. Agree b c (option_map_or (λ name. tried b (item_cells k.side (ext_of k.name) name)) o []) → option_and_then (parent_named b k) o ≡ option_and_then (parent_named c k) o) [
+        elim (written_parent b k) as (λ o. AgreeAt b c (option_map_or (λ name. tried b (item_cells k.side (ext_of k.name) name)) o []) → option_and_then (parent_named b k) o ≡ option_and_then (parent_named c k) o) [
           | None ↦ λ a. refl
           | Some name ↦ λ a. named name a
         ] at_parent
@@ -43,7 +44,7 @@ module _ (b c : Looks) where
     pub same_parent_reads : parent_reads b k ≡ parent_reads c k
     unfolding tried_for
     same_parent_reads =
-        elim (written_parent b k) as (λ o. Agree b c (option_map_or (tried_for b) o []) → option_map_or (tried_for b) o [] ≡ option_map_or (tried_for c) o []) [
+        elim (written_parent b k) as (λ o. AgreeAt b c (option_map_or (tried_for b) o []) → option_map_or (tried_for b) o [] ≡ option_map_or (tried_for c) o []) [
           | None ↦ λ a. refl
           | Some name ↦ λ a. same_tried b c (item_cells k.side (ext_of k.name) name) a
         ] at_parent
@@ -54,7 +55,7 @@ module _ (b c : Looks) where
 
     pub same_patches_of : patches_of b k ≡ patches_of c k
     same_patches_of =
-        elim (has_slash k.name) as (λ t. Agree b c ((if t then [] else cell.Patches k ∷ []) ++ parent_reads b k) → (if t then [] else b.patches k) ≡ (if t then [] else c.patches k)) [
+        elim (has_slash k.name) as (λ t. AgreeAt b c ((if t then [] else cell.Patches k ∷ []) ++ parent_reads b k) → (if t then [] else b.patches k) ≡ (if t then [] else c.patches k)) [
           | true ↦ λ a. refl
           | false ↦ λ a. same_patches b c k a.0
         ] agree.1
@@ -62,26 +63,26 @@ module _ (b c : Looks) where
     pub same_speakers_of : speakers_of b k ≡ speakers_of c k
     same_speakers_of = λ i. map (own_speaker k) (option_to_list (same_own_file i)) ++ map (patch_speaker k) (same_patches_of i)
 
-  pub same_keys_up : (n : ℕ) (k : Key) → Agree b c (flat_map (key_reads b) (keys_up n b k)) → keys_up n b k ≡ keys_up n c k
+  pub same_keys_up : (n : ℕ) (k : Key) → AgreeAt b c (flat_map (key_reads b) (keys_up n b k)) → keys_up n b k ≡ keys_up n c k
   unfolding keys_up
   same_keys_up zero k agree = refl
   same_keys_up (suc n) k agree =
       let here = left (λ x. look b x ≡ look c x) (key_reads b k) (flat_map (key_reads b) (from_there (keys_up n b) (parent b k))) agree in
       let up = right (λ x. look b x ≡ look c x) (key_reads b k) (flat_map (key_reads b) (from_there (keys_up n b) (parent b k))) agree in
       ap (λ ks. k ∷ ks)
-      (elim (parent b k) as (λ o. Agree b c (flat_map (key_reads b) (from_there (keys_up n b) o)) → from_there (keys_up n b) o ≡ from_there (keys_up n c) o) [
+      (elim (parent b k) as (λ o. AgreeAt b c (flat_map (key_reads b) (from_there (keys_up n b) o)) → from_there (keys_up n b) o ≡ from_there (keys_up n c) o) [
         | None ↦ λ a. refl
         | Some p ↦ λ a. same_keys_up n p a
       ] up
       ∙ ap (from_there (keys_up n c)) (same_parent k here))
 
-  module _ (k : Key) (agree : Agree b c (flat_map (key_reads b) (chain b k))) where
+  module _ (k : Key) (agree : AgreeAt b c (flat_map (key_reads b) (chain b k))) where
     pub same_chain : chain b k ≡ chain c k
     same_chain = same_keys_up 33 k agree
 
     -- a fact of each key on the chain
-    pub along : (P : Key → Type 0) → ((j : Key) → Agree b c (key_reads b j) → P j) → AllByRecursion P (chain b k)
-    along P fact = weaker (λ j. Agree b c (key_reads b j)) P fact (chain b k) (each (λ x. look b x ≡ look c x) (key_reads b) (chain b k) agree)
+    pub along : (P : Key → Type 0) → ((j : Key) → AgreeAt b c (key_reads b j) → P j) → AllByRecursion P (chain b k)
+    along P fact = weaker (λ j. AgreeAt b c (key_reads b j)) P fact (chain b k) (each (λ x. look b x ≡ look c x) (key_reads b) (chain b k) agree)
 
     pub same_speakers : speakers b k ≡ speakers c k
     same_speakers =

@@ -26,11 +26,12 @@ use Rattle.ocsf_rules.specs.Compiled.{is_class, uid, is_hidden, starts_low, last
 use Rattle.ocsf_rules.specs.ItemFaults.{fault, same_key, cycle_in, lesser_key, least_key, cycle_fault, parent_fault, limit_fault, faults_along, chain_faults, attribute_fault, category_fault, constraint_fault, activity_fault, size_fault, own_faults, item_fault}
 use Rattle.ocsf_rules.specs.InOrder.{in_order}
 use Rattle.ocsf_rules.specs.Reads.{ext_reads, key_reads, speaker_reads, attribute_reads, category_reads, cells_read, reads}
-use Rattle.ocsf_rule_laws.proofs.Agreement.{Agree, left, right, each, weaker, all_take, same_flat_map, same_map, same_categories, same_exts, same_from_found, same_tried}
+use Rattle.ocsf_rule_laws.proofs.Agreement.{left, right, each, weaker, all_take, same_flat_map, same_map, same_categories, same_exts, same_from_found, same_tried}
 use Rattle.ocsf_rule_laws.proofs.SameChain.{same_own_file, same_written_parent, same_parent, same_speakers_of, along, same_chain, same_chain_reads, same_speakers}
 use Rattle.ocsf_rule_laws.proofs.SameLayers.{same_layers, same_layers_reads, same_layers_faults}
 use Rattle.ocsf_rule_laws.proofs.SameAttributes.{same_dict_entries, same_target, same_attribute_reads, same_attr, same_enumeration, same_attribute_fault}
 use Rattle.ocsf_rule_laws.proofs.CellsInOrder.{all_in_order, same_cell}
+use Rattle.ocsf_rule_laws.specs.LookLaws.{AgreeAt}
 
 -- what holds of each item of a list holds of what is found in it
 all_at_name : {X : Type 0} (P : X → Type 0) (name : X → List ℕ) (q : List ℕ) (xs : List X) → AllByRecursion P xs → (x : X) → at_name name q xs ≡ Some x → P x
@@ -75,16 +76,16 @@ module _ (b c : Looks) where
       let unknown = same_flat_map (parent_fault b) (parent_fault c) keys (weaker (λ j. (written_parent b j ≡ written_parent c j) × (parent b j ≡ parent c j)) (λ j. parent_fault b j ≡ parent_fault c j) same_parent_fault keys all) in
       λ i. if length keys == 33 then (if is_there (cycle_in keys) then cycle i else limit_fault k) else unknown i
 
-  module _ (k : Key) (keys : Agree b c (flat_map (key_reads b) (chain b k))) where
+  module _ (k : Key) (keys : AgreeAt b c (flat_map (key_reads b) (chain b k))) where
     pub same_chain_faults : chain_faults b k ≡ chain_faults c k
     same_chain_faults =
         same_faults_along k (chain b k) (along b c k keys (λ j. (written_parent b j ≡ written_parent c j) × (parent b j ≡ parent c j)) (λ j a. (same_written_parent b c j a, same_parent b c j a)))
         ∙ ap (faults_along c k) (same_chain b c k keys)
 
     -- the chain begins with the item itself
-    here : Agree b c (key_reads b k)
+    here : AgreeAt b c (key_reads b k)
     unfolding keys_up
-    here = (along b c k keys (λ j. Agree b c (key_reads b j)) (λ j a. a)).0
+    here = (along b c k keys (λ j. AgreeAt b c (key_reads b j)) (λ j a. a)).0
 
     own : own_file b k ≡ own_file c k
     own = same_own_file b c k here
@@ -125,10 +126,10 @@ module _ (b c : Looks) where
     tried_for : Looks → Written → List Cell
     tried_for d w = tried d (category_cells w.ext w.name)
 
-    module _ (agree : Agree b c (category_reads b k)) where
+    module _ (agree : AgreeAt b c (category_reads b k)) where
       pub same_category : category b k ≡ category c k
       same_category =
-          elim (written_category b k) as (λ o. Agree b c (option_map_or (λ w. tried b (category_cells w.ext w.name)) o []) → option_and_then (category_named b) o ≡ option_and_then (category_named c) o) [
+          elim (written_category b k) as (λ o. AgreeAt b c (option_map_or (λ w. tried b (category_cells w.ext w.name)) o []) → option_and_then (category_named b) o ≡ option_and_then (category_named c) o) [
             | None ↦ λ a. refl
             | Some w ↦ λ a. same_from_found b c (category_at b) (category_at c) same_category_at (category_cells w.ext w.name) a
           ] agree
@@ -137,7 +138,7 @@ module _ (b c : Looks) where
       same_category_reads : category_reads b k ≡ category_reads c k
       unfolding tried_for
       same_category_reads =
-          elim (written_category b k) as (λ o. Agree b c (option_map_or (tried_for b) o []) → option_map_or (tried_for b) o [] ≡ option_map_or (tried_for c) o []) [
+          elim (written_category b k) as (λ o. AgreeAt b c (option_map_or (tried_for b) o []) → option_map_or (tried_for b) o [] ≡ option_map_or (tried_for c) o []) [
             | None ↦ λ a. refl
             | Some w ↦ λ a. same_tried b c (category_cells w.ext w.name) a
           ] agree
@@ -150,26 +151,26 @@ module _ (b c : Looks) where
           (if is_some (same_uid i) then fault code.CategoryUnknown (key_text k) [] ∷ [] else [])
           else []
 
-  same_ext_uid : (ext : List ℕ) → Agree b c (ext_reads ext) → ext_uid b ext ≡ ext_uid c ext
+  same_ext_uid : (ext : List ℕ) → AgreeAt b c (ext_reads ext) → ext_uid b ext ≡ ext_uid c ext
   same_ext_uid [] agree = refl
   same_ext_uid (x ∷ ext) agree = ap (λ files. option_map_or (λ file. file.uid) (first_of files) 0) (same_exts b c (x ∷ ext) agree.0)
 
   -- ---- the whole
 
   module _ (k : Key)
-      (at_ext : Agree b c (ext_reads (ext_of k.name)))
-      (keys : Agree b c (flat_map (key_reads b) (chain b k)))
-      (heard : Agree b c (flat_map (speaker_reads b) (speakers b k)))
-      (joined : Agree b c (flat_map (attribute_reads b (ext_of k.name)) (table_of (layers b k))))
-      (categorized : Agree b c (category_reads b k)) where
+      (at_ext : AgreeAt b c (ext_reads (ext_of k.name)))
+      (keys : AgreeAt b c (flat_map (key_reads b) (chain b k)))
+      (heard : AgreeAt b c (flat_map (speaker_reads b) (speakers b k)))
+      (joined : AgreeAt b c (flat_map (attribute_reads b (ext_of k.name)) (table_of (layers b k))))
+      (categorized : AgreeAt b c (category_reads b k)) where
     all_layers : layers b k ≡ layers c k
     all_layers = same_layers b c k keys heard
 
     rows : table_of (layers b k) ≡ table_of (layers c k)
     rows = ap (λ ls. table_of ls) all_layers
 
-    at_rows : (P : Spoken → Type 0) → ((s : Spoken) → Agree b c (attribute_reads b (ext_of k.name) s) → P s) → AllByRecursion P (table_of (layers b k))
-    at_rows P fact = weaker (λ s. Agree b c (attribute_reads b (ext_of k.name) s)) P fact (table_of (layers b k)) (each (λ x. look b x ≡ look c x) (attribute_reads b (ext_of k.name)) (table_of (layers b k)) joined)
+    at_rows : (P : Spoken → Type 0) → ((s : Spoken) → AgreeAt b c (attribute_reads b (ext_of k.name) s) → P s) → AllByRecursion P (table_of (layers b k))
+    at_rows P fact = weaker (λ s. AgreeAt b c (attribute_reads b (ext_of k.name) s)) P fact (table_of (layers b k)) (each (λ x. look b x ≡ look c x) (attribute_reads b (ext_of k.name)) (table_of (layers b k)) joined)
 
     the_category : category b k ≡ category c k
     the_category = same_category k keys categorized
@@ -247,7 +248,7 @@ module _ (b c : Looks) where
     unfolding item_fault
     same_item_fault = λ i. option_or (least_fault (same_chain_faults k keys i)) (option_or (least_fault (same_layers_faults b c k keys heard i)) (least_fault (same_own_faults i)))
 
-  module _ (k : Key) (agree : Agree b c (cells_read b k)) where
+  module _ (k : Key) (agree : AgreeAt b c (cells_read b k)) where
     Same : Cell → Type 0
     Same x = look b x ≡ look c x
 
@@ -269,6 +270,6 @@ module _ (b c : Looks) where
         let joined = right (λ x. look b x ≡ look c x) (e ++ ks ++ ss ++ cs) as' agree in
         (same_item k at_ext keys heard joined categorized, ap (in_order cell_cmp) (same_cells k at_ext keys heard joined categorized), same_item_fault k at_ext keys heard joined categorized)
 
-  pub from_reads : (k : Key) → Agree b c (reads b k) → (item b k ≡ item c k) × (reads b k ≡ reads c k) × (item_fault b k ≡ item_fault c k)
+  pub from_reads : (k : Key) → AgreeAt b c (reads b k) → (item b k ≡ item c k) × (reads b k ≡ reads c k) × (item_fault b k ≡ item_fault c k)
   unfolding reads
   from_reads k agree = whole k (all_in_order cell_cmp same_cell (λ x. look b x ≡ look c x) (cells_read b k) agree)

@@ -19,7 +19,8 @@ use Rattle.ocsf_raw.specs.declared.wanted.Wanted.TheVariants.{Plain, Listed, Obj
 use Rattle.ocsf_raw.specs.declared.least_fault.Found.{Found}
 use Rattle.ocsf_raw.specs.Wanted.{fault_here, item_wanted, member_wanted, counts}
 use Rattle.ocsf_raw.specs.Shape.{Faults, IsLeast, is_given, names_needed, read_part, fault_at}
-use Rattle.ocsf_raw.specs.Least.{lesser, found_below, fault_of, fault_of_member, faults_of_items, faults_of_members, faults_missing}
+use Rattle.ocsf_tree.specs.Least.{lesser}
+use Rattle.ocsf_raw.specs.Least.{stands_before, found_below, fault_of, fault_of_member, faults_of_items, faults_of_members, faults_missing}
 use Rattle.ocsf_raw.proofs.Leasts.{least_alike, none_least, here_least, least_of_two}
 use Rattle.ocsf_raw.proofs.LeastTrees.{list_least, object_least, null_least, flag_least, whole_least, words_least}
 use Rattle.ocsf_raw.proofs.LeastParts.{NoneEarlier, no_members, member_passed, member_found, item_found, item_passed, no_item_found, nothing_wanted, none_missing, nothing_missing, missing_found}
@@ -106,9 +107,9 @@ module _ (ms : List Member) where
   either false false true = refl
   either false false false = refl
 
-  missing_cons : (a : List ℕ) (bs : List (List ℕ)) (x y : Option Found) → IsLeast (faults_missing (a ∷ []) ms) x → IsLeast (faults_missing bs ms) y → IsLeast (faults_missing (a ∷ bs) ms) (lesser x y)
+  missing_cons : (a : List ℕ) (bs : List (List ℕ)) (x y : Option Found) → IsLeast (faults_missing (a ∷ []) ms) x → IsLeast (faults_missing bs ms) y → IsLeast (faults_missing (a ∷ bs) ms) (lesser stands_before x y)
   missing_cons a bs x y left right =
-      least_alike (faults_missing (a ∷ bs) ms) _ (lesser x y) alike (least_of_two (faults_missing (a ∷ []) ms) (faults_missing bs ms) x y left right)
+      least_alike (faults_missing (a ∷ bs) ms) _ (lesser stands_before x y) alike (least_of_two (faults_missing (a ∷ []) ms) (faults_missing bs ms) x y left right)
     where
       alike : (p : List Step) → faults_missing (a ∷ bs) ms p ≡ option_or (faults_missing (a ∷ []) ms p) (faults_missing bs ms p)
       alike [] = refl
@@ -125,7 +126,7 @@ module _ (ms : List Member) where
   of_names (a ∷ bs) =
       let first = of_name a (is_given (member_in a ms)) refl in
       let rest = of_names bs in
-      (lesser first.0 rest.0, missing_cons a bs first.0 rest.0 first.1 rest.1)
+      (lesser stands_before first.0 rest.0, missing_cons a bs first.0 rest.0 first.1 rest.1)
 
 -- ---- trees
 
@@ -148,7 +149,7 @@ below (Tree-F.Members ms) wanted v here shown =
     let members = map (λ (e : (m : Member) × MemberHas m). e.0) ms in
     let inside = of_members wanted ms (members_of_valid members v) in
     let missing = of_names members (names_needed wanted members) in
-    (lesser inside.0 missing.0, object_least wanted (roll-Tree (Tree-F.Members members)) here members inside.0 missing.0 shown inside.1 missing.1)
+    (lesser stands_before inside.0 missing.0, object_least wanted (roll-Tree (Tree-F.Members members)) here members inside.0 missing.0 shown inside.1 missing.1)
 
 layer : (y : Layer) → TreeHas (roll-Tree (bare y))
 layer y wanted v = go (fault_here wanted (out-Tree (roll-Tree (bare y)))) refl

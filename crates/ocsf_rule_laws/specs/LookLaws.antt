@@ -1,6 +1,6 @@
 -- What the cells that an item reads are good for: where two bundles show the same there, they have the same
 -- item. The statements of the laws in src/laws.rt, each of all bundles and all keys.
-use Rattle.std.specs.Prelude.{◌≡◌, ℕ, false, List, flat_map, Option, None, if◌then◌else◌, All}
+use Rattle.std.specs.Prelude.{◌≡◌, ℕ, false, List, flat_map, Option, None, if◌then◌else◌}
 use Rattle.std.specs.List.{AllByRecursion}
 use Rattle.ocsf_tree.specs.declared.key.Key.{Key}
 use Rattle.ocsf_raw.specs.declared.attribute.RawAttr.{RawAttr}
@@ -16,7 +16,7 @@ use Rattle.ocsf_rules.specs.Reads.{key_reads, speaker_reads, attribute_reads, ca
 
 -- the two show the same at each of these cells
 abbrev pub AgreeAt : Looks → Looks → List Cell → Type 0
-AgreeAt b c cells = All (λ x. look b x ≡ look c x) cells
+AgreeAt b c cells = AllByRecursion (λ x. look b x ≡ look c x) cells
 
 -- at the cells that are read for the chain
 abbrev pub AgreeOnChain : Looks → Looks → Key → Type 0
@@ -32,7 +32,8 @@ entry_profile b ext entry = if entry.removed then None else mark_key b ext false
 
 -- the entries of the layer name the same profiles
 abbrev pub AreMarksSame : Looks → Looks → Layer → Type 0
-AreMarksSame b c layer = AllByRecursion (λ entry. entry_profile b layer.from entry ≡ entry_profile c layer.from entry) layer.entries
+AreMarksSame b c layer =
+    AllByRecursion (λ entry. entry_profile b layer.from entry ≡ entry_profile c layer.from entry) layer.entries
 
 abbrev pub HaveSameChain : Type 0
 HaveSameChain = (b c : Looks) (k : Key) → AgreeOnChain b c k → chain b k ≡ chain c k
@@ -47,7 +48,8 @@ HaveSameAttribute = (b c : Looks) (ext : List ℕ) (s : Spoken) → AgreeAt b c 
     → (b.dict s.attr.name ≡ c.dict s.attr.name) × (target_of b ext s ≡ target_of c ext s)
 
 abbrev pub HaveSameCategory : Type 0
-HaveSameCategory = (b c : Looks) (k : Key) → AgreeOnChain b c k → AgreeAt b c (category_reads b k) → category b k ≡ category c k
+HaveSameCategory = (b c : Looks) (k : Key) → AgreeOnChain b c k → AgreeAt b c (category_reads b k)
+    → category b k ≡ category c k
 
 -- the items, the cells read, and the least fault are those of the one bundle and of the other
 abbrev pub HaveSameItem : Type 0

@@ -5,16 +5,14 @@ use Rattle.std.specs.List.{list_any, take_while}
 use Rattle.std.specs.Str.{bytes_eq}
 use Rattle.std.specs.Char.{is_ascii_digit}
 use Rattle.std.specs.Ordering.{is_lt}
-use Rattle.ocsf_tree.specs.declared.key.Side.{Side}
-use Rattle.ocsf_tree.specs.declared.key.Side.TheVariants.{Class, Object}
 use Rattle.ocsf_tree.specs.declared.key.Key.{Key}
 use Rattle.ocsf_tree.specs.declared.fault.Fault.{Fault}
-use Rattle.ocsf_tree.specs.declared.fault.Code.{Code}
 use Rattle.ocsf_tree.specs.declared.fault.Code.TheVariants as code
 use Rattle.ocsf_tree.specs.declared.attribute.EnumMember.{EnumMember}
 use Rattle.ocsf_tree.specs.ByName.{text_cmp, at_name}
 use Rattle.ocsf_schema.specs.declared.records.Target.{Target}
-use Rattle.ocsf_tree.specs.Key.{key_text}
+use Rattle.ocsf_tree.specs.Key.{key_text, same_side}
+pub use Rattle.ocsf_tree.specs.Fault.{fault}
 use Rattle.ocsf_tree.specs.LeastFault.{least_fault}
 use Rattle.ocsf_raw.specs.declared.attribute.RawAttr.{RawAttr}
 use Rattle.ocsf_raw.specs.declared.attribute.Mark.{Mark}
@@ -29,16 +27,9 @@ use Rattle.ocsf_rules.specs.declared.category.Written.{Written}
 use Rattle.ocsf_rules.specs.Names.{ext_of, found, profile_cells, include_cells}
 use Rattle.ocsf_rules.specs.Chain.{chain, written_parent, parent, Speaker, speakers, layers, include_layer, listed_layer}
 use Rattle.ocsf_rules.specs.Attribute.{dict_said, type_of, target_of}
-use Rattle.ocsf_rules.specs.Compiled.{is_class_side, uid, written_category, category, at_least_one, just_one, activities}
-
-abbrev pub fault : Code → List ℕ → List ℕ → Fault
-fault code subject name = record { code = code; subject = subject; name = name }
+use Rattle.ocsf_rules.specs.Compiled.{uid, written_category, category, at_least_one, just_one, activities}
 
 -- ---- of the chain
-
-abbrev pub same_side : Side → Side → Bool
-same_side Class other = is_class_side other
-same_side Object other = not (is_class_side other)
 
 abbrev pub same_key : Key → Key → Bool
 same_key j k = same_side j.side k.side && bytes_eq j.name k.name
@@ -59,11 +50,14 @@ least_key k (j ∷ js) = least_key (lesser_key j k) js
 -- the least key on the cycle, with what it extends
 abbrev pub cycle_fault : Looks → List Key → List Fault
 cycle_fault b [] = []
-cycle_fault b (k ∷ ks) = let least = least_key k ks in fault code.ExtendsCycle (key_text least) (unwrap_or (written_parent b least) []) ∷ []
+cycle_fault b (k ∷ ks) =
+    let least = least_key k ks in fault code.ExtendsCycle (key_text least) (unwrap_or (written_parent b least) []) ∷ []
 
 -- the key extends what isn't there
 abbrev pub parent_fault : Looks → Key → List Fault
-parent_fault b k = if is_none (parent b k) then option_map_or (λ name. fault code.ParentUnknown (key_text k) name ∷ []) (written_parent b k) [] else []
+parent_fault b k =
+    if is_none (parent b k)
+    then option_map_or (λ name. fault code.ParentUnknown (key_text k) name ∷ []) (written_parent b k) [] else []
 
 abbrev pub limit_fault : Key → List Fault
 limit_fault k = fault code.ChainLimit (key_text k) (codes "32") ∷ []
@@ -81,7 +75,8 @@ chain_faults b k = faults_along b k (chain b k)
 -- ---- of the layers
 
 abbrev pub unknown_profile : Looks → Key → List ℕ → List ℕ → List Fault
-unknown_profile b by ext name = if is_none (found b (profile_cells ext name)) then fault code.ProfileUnknown (key_text by) name ∷ [] else []
+unknown_profile b by ext name =
+    if is_none (found b (profile_cells ext name)) then fault code.ProfileUnknown (key_text by) name ∷ [] else []
 
 abbrev pub mark_fault : Looks → Key → List ℕ → Mark → List Fault
 mark_fault b by ext (Named name) = unknown_profile b by ext name
@@ -95,7 +90,8 @@ abbrev pub layer_faults : Looks → Key → Layer → List Fault
 layer_faults b by layer = flat_map (entry_fault b by layer.from) layer.entries
 
 abbrev pub unknown_include : Looks → Key → List ℕ → List ℕ → List Fault
-unknown_include b by ext path = if is_none (found b (include_cells ext path)) then fault code.IncludeUnknown (key_text by) path ∷ [] else []
+unknown_include b by ext path =
+    if is_none (found b (include_cells ext path)) then fault code.IncludeUnknown (key_text by) path ∷ [] else []
 
 abbrev pub include_faults : Looks → Key → List ℕ → List ℕ → List Fault
 include_faults b by ext path = unknown_include b by ext path ++ flat_map (layer_faults b by) (include_layer b ext path)
@@ -126,7 +122,9 @@ leads_fault k name there target t =
 
 -- the attribute isn't in the dictionary, or its type leads nowhere
 abbrev pub attribute_fault : Looks → Key → Spoken → List Fault
-attribute_fault b k s = leads_fault k s.attr.name (is_there (b.dict s.attr.name)) (target_of b (ext_of k.name) s) (type_of (dict_said (b.dict s.attr.name)) s)
+attribute_fault b k s =
+    leads_fault k s.attr.name (is_there (b.dict s.attr.name)) (target_of b (ext_of k.name) s)
+    (type_of (dict_said (b.dict s.attr.name)) s)
 
 -- of a class with that category, the one that is written, and that number
 abbrev pub missing_category : Key → Option Category → Option Written → Option ℕ → List Fault
@@ -142,7 +140,8 @@ category_fault b k = missing_category k (category b k) (written_category b k) (u
 
 -- a constraint names an attribute that has no row
 abbrev pub absent_fault : Key → List Spoken → List ℕ → List Fault
-absent_fault k rows name = if is_some (at_name (λ s. s.attr.name) name rows) then [] else fault code.ConstraintUnknown (key_text k) name ∷ []
+absent_fault k rows name =
+    if is_some (at_name (λ s. s.attr.name) name rows) then [] else fault code.ConstraintUnknown (key_text k) name ∷ []
 
 abbrev pub constraint_fault : Looks → Key → List ℕ → List Fault
 constraint_fault b k name = absent_fault k (table_of (layers b k)) name
@@ -179,4 +178,5 @@ own_faults b k =
 
 -- of the chain; of the layers only where the chain has none; of the item only where these have none
 unfoldable pub item_fault : Looks → Key → Option Fault
-item_fault b k = option_or (least_fault (chain_faults b k)) (option_or (least_fault (layers_faults b k)) (least_fault (own_faults b k)))
+item_fault b k =
+    option_or (least_fault (chain_faults b k)) (option_or (least_fault (layers_faults b k)) (least_fault (own_faults b k)))

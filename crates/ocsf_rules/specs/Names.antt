@@ -1,10 +1,11 @@
 -- How names resolve: the cells that a name leads to, tried in order.
 use Rattle.std.specs.Prelude.{ℕ, Bool, List, [], ◌∷◌, ◌++◌, map, find, codes, Option, Some, None, if◌then◌else◌}
-use Rattle.std.specs.List.{list_any, before_first}
+use Rattle.std.specs.List.{before_first}
 use Rattle.std.specs.Option.{option_and_then}
 use Rattle.ocsf_tree.specs.declared.key.Side.{Side}
 use Rattle.ocsf_tree.specs.declared.key.Key.{Key}
 use Rattle.ocsf_raw.specs.Names.{is_slash}
+pub use Rattle.ocsf_raw.specs.Names.{has_slash}
 use Rattle.ocsf_bundle.specs.Looks.{Looks, look, is_there}
 use Rattle.ocsf_bundle.specs.declared.cells.Cell.{Cell}
 use Rattle.ocsf_bundle.specs.declared.cells.Cell.TheVariants as cell
@@ -15,9 +16,6 @@ first_of [] = None
 first_of (x ∷ xs) = Some x
 
 -- ---- keys
-
-abbrev pub has_slash : List ℕ → Bool
-has_slash name = list_any is_slash name
 
 -- the extension of a key, empty for core
 abbrev pub ext_of : List ℕ → List ℕ

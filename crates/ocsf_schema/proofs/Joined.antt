@@ -5,7 +5,8 @@ use Rattle.ocsf_tree.specs.declared.tree.Tree.TheVariants as tree
 use Rattle.ocsf_tree.specs.declared.tree.Member.{Member}
 use Rattle.ocsf_schema.specs.declared.records.Attr.{Attr}
 use Rattle.ocsf_schema.specs.declared.records.Item.{Item}
-use Rattle.ocsf_schema.specs.Print.{shown, words, number, flag, texts, enumeration, requirement_text, type_text, object_key, attribute_tree, attribute_member, constraints, fragment_tree}
+use Rattle.ocsf_schema.specs.Print.{shown, words, number, flag, texts, enumeration, type_text, object_key, attribute_tree, attribute_member, constraints, fragment_tree}
+use Rattle.ocsf_tree.specs.Requirement.{requirement_text}
 
 abbrev one_by_one : {X : Type 0} → List X → List X → List X → List X → List X → List X → List X → List X → List X → List X → List X
 one_by_one a b c d e f g h i j = ((((((((a ++ b) ++ c) ++ d) ++ e) ++ f) ++ g) ++ h) ++ i) ++ j

@@ -15,7 +15,8 @@ use Rattle.ocsf_tree.specs.declared.tree.Member.{Member}
 use Rattle.ocsf_tree.specs.declared.attribute.EnumMember.{EnumMember}
 use Rattle.ocsf_schema.specs.declared.records.Attr.{Attr}
 use Rattle.ocsf_schema.specs.declared.records.Item.{Item}
-use Rattle.ocsf_schema.specs.Print.{Field, present, object_of, words, number, flag, texts, enum_member_tree, enum_member, enumeration, requirement_text, type_text, object_key, attribute_tree, attribute_member, constraints, fragment_tree}
+use Rattle.ocsf_schema.specs.Print.{Field, present, object_of, words, number, flag, texts, enum_member_tree, enum_member, enumeration, type_text, object_key, attribute_tree, attribute_member, constraints, fragment_tree}
+use Rattle.ocsf_tree.specs.Requirement.{requirement_text}
 
 both : (a b : Bool) → a ≡ true → b ≡ true → (a && b) ≡ true
 both true b p q = q

@@ -5,7 +5,7 @@ use Rattle.ocsf_tree.specs.declared.key.Side.{Side}
 use Rattle.ocsf_tree.specs.CompactText.{quoted_text, member_text}
 use Rattle.ocsf_schema.specs.declared.records.Item.{Item}
 use Rattle.ocsf_schema.specs.Print.{fragment}
-use Rattle.ocsf_schema.specs.Schema.{same_side}
+use Rattle.ocsf_tree.specs.Key.{same_side}
 
 abbrev pub separator : Bool → List ℕ
 separator true = 44 ∷ []

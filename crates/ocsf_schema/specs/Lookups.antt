@@ -4,9 +4,8 @@ use Rattle.std.specs.List.{find}
 use Rattle.ocsf_tree.specs.declared.key.Key.{Key}
 use Rattle.ocsf_tree.specs.declared.key.Side.TheVariants.{Class}
 use Rattle.ocsf_tree.specs.ByName.{IsByName, at_name}
-use Rattle.ocsf_tree.specs.Key.{key_text}
+use Rattle.ocsf_tree.specs.Key.{key_text, same_side}
 use Rattle.ocsf_schema.specs.declared.records.Item.{Item}
-use Rattle.ocsf_schema.specs.Schema.{same_side}
 
 -- strictly by full key
 abbrev pub IsByKey : List Item → Type 0

@@ -4,8 +4,7 @@ use Rattle.ocsf_tree.specs.declared.tree.Tree.{Tree}
 use Rattle.ocsf_tree.specs.declared.tree.Tree.TheVariants as tree
 use Rattle.ocsf_tree.specs.declared.tree.Member.{Member}
 use Rattle.ocsf_tree.specs.declared.attribute.EnumMember.{EnumMember}
-use Rattle.ocsf_tree.specs.declared.attribute.Requirement.{Requirement}
-use Rattle.ocsf_tree.specs.declared.attribute.Requirement.TheVariants.{Required, Recommended, Optional}
+use Rattle.ocsf_tree.specs.Requirement.{requirement_text}
 use Rattle.ocsf_tree.specs.CompactText.{text}
 use Rattle.ocsf_schema.specs.declared.records.Attr.{Attr}
 use Rattle.ocsf_schema.specs.declared.records.Item.{Item}
@@ -60,11 +59,6 @@ enum_member member = record { name = member.key; value = enum_member_tree member
 abbrev pub enumeration : List EnumMember → Option Tree
 enumeration [] = None
 enumeration (m ∷ ms) = Some (tree.Members (map enum_member (m ∷ ms)))
-
-abbrev pub requirement_text : Requirement → List ℕ
-requirement_text Required = codes "required"
-requirement_text Recommended = codes "recommended"
-requirement_text Optional = codes "optional"
 
 -- the name of a data type; every object has the type `object_t`
 abbrev pub type_text : Target → List ℕ

@@ -1,20 +1,15 @@
 -- The printed schema as a whole.
-use Rattle.std.specs.Prelude.{ℕ, List, [], ◌∷◌, ◌++◌, Bool, true, false, filter, map, codes}
+use Rattle.std.specs.Prelude.{ℕ, List, [], ◌∷◌, ◌++◌, filter, map, codes}
 use Rattle.ocsf_tree.specs.declared.tree.Tree.{Tree}
 use Rattle.ocsf_tree.specs.declared.tree.Tree.TheVariants as tree
 use Rattle.ocsf_tree.specs.declared.tree.Member.{Member}
 use Rattle.ocsf_tree.specs.declared.key.Side.{Side}
 use Rattle.ocsf_tree.specs.declared.key.Side.TheVariants.{Class, Object}
+use Rattle.ocsf_tree.specs.Key.{same_side}
 use Rattle.ocsf_tree.specs.CompactText.{text}
 use Rattle.ocsf_schema.specs.declared.records.Item.{Item}
 use Rattle.ocsf_schema.specs.declared.parts.SchemaParts.{SchemaParts}
 use Rattle.ocsf_schema.specs.Print.{fragment_tree}
-
-abbrev pub same_side : Side → Side → Bool
-same_side Class Class = true
-same_side Object Object = true
-same_side Class Object = false
-same_side Object Class = false
 
 abbrev pub item_member : Item → Member
 item_member item = record { name = item.key.name; value = fragment_tree item }

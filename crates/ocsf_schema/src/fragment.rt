@@ -1,12 +1,12 @@
 // The printed fragment of an item, as a tree.
 ghost use Rattle.std.specs.Prelude.{◌≡◌, ◌<◌, ◌^◌, IfOk, OnOk, IfSome, map};
-ghost use Rattle.ocsf_schema.specs.Print.{words, number, requirement_text, type_text, object_key, attribute_tree, attribute_member, constraints, fragment_tree};
+ghost use Rattle.ocsf_schema.specs.Print.{words, number, type_text, object_key, attribute_tree, attribute_member, constraints, fragment_tree};
 
 use crate::fields::{
     enumeration_field, flag_field, put_field, put_word, put_words, texts_field,
 };
 use crate::{Attr, Item, Target};
-use ocsf_tree::{Member, Requirement, Row, Tree};
+use ocsf_tree::{Member, Row, Tree};
 use std::alloc::{AllocError, Global};
 
 fn category_uid_of(item: &Item) -> Option<Tree>
@@ -26,16 +26,6 @@ fn class_uid_of(item: &Item) -> Option<Tree>
     match item.class_uid {
         Some(uid) => Some(Tree::Whole(i128::from(uid))),
         None => None,
-    }
-}
-
-fn requirement_of(requirement: Requirement) -> &'static str
-    ensures { result.now ≡ requirement_text requirement }
-{
-    match requirement {
-        Requirement::Required => "required",
-        Requirement::Recommended => "recommended",
-        Requirement::Optional => "optional",
     }
 }
 
@@ -72,7 +62,7 @@ fn attribute_of(alloc: Global, attr: &Attr) -> Result<Tree, AllocError>
     put_field(&mut members, "is_array", flag_field(attr.is_array))?;
     put_field(&mut members, "object", object_of(&attr.target)?)?;
     put_words(&mut members, "profile", &attr.profile)?;
-    put_word(&mut members, "requirement", requirement_of(attr.requirement))?;
+    put_word(&mut members, "requirement", attr.requirement.as_str())?;
     put_words(&mut members, "sibling", &attr.sibling)?;
     put_word(&mut members, "type", type_of(&attr.target))?;
     Ok(Tree::Members(members))

@@ -25,7 +25,8 @@ fn compare(key: &Key, other: &Key) -> Ordering
 fn search_by_key(pieces: &[Shared<Piece>], key: &Key) -> Result<usize, usize>
     requires { IsByKey pieces.now }
     ensures within { IfOk result (λ at. at < length pieces.now) }
-    ensures found { IfOk result (HoldsAt (λ item. text_cmp (key_text item.key) (key_text key.now) ≡ Equal) pieces.now) }
+    ensures found { IfOk result
+        (HoldsAt (λ item. text_cmp (key_text item.key) (key_text key.now) ≡ Equal) pieces.now) }
     ensures absent { IfErr result (IsPartitionPoint (λ item. text_cmp (key_text item.key) (key_text key.now) ≡ Less)
         (λ item. text_cmp (key_text item.key) (key_text key.now) ≡ Greater) pieces.now) }
 {
@@ -58,7 +59,8 @@ fn add_class(
     classes: &mut BTreeMap<u64, Shared<Piece>>,
     piece: &Shared<Piece>,
 ) -> Result<(), AllocError>
-    ensures { OnOk result ((uid : ℕ) → get nat_cmp classes.new uid ≡ option_or (get nat_cmp classes.old uid) (class_at uid (piece.now ∷ []))) }
+    ensures { OnOk result ((uid : ℕ) →
+        get nat_cmp classes.new uid ≡ option_or (get nat_cmp classes.old uid) (class_at uid (piece.now ∷ []))) }
 {
     if let Some(uid) = number_of(piece.get().item())
         && !classes.contains_key(&uid)

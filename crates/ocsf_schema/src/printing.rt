@@ -4,7 +4,8 @@ ghost use Rattle.ocsf_tree.specs.CompactText.{text, member_text};
 ghost use Rattle.ocsf_tree.specs.Valid.{IsValid};
 ghost use Rattle.ocsf_schema.specs.declared.records.Item.{Item};
 ghost use Rattle.ocsf_schema.specs.Joining.{separator, label, HoldsItems};
-ghost use Rattle.ocsf_schema.specs.Schema.{same_side, fragments, schema_text};
+ghost use Rattle.ocsf_schema.specs.Schema.{fragments, schema_text};
+ghost use Rattle.ocsf_tree.specs.Key.{same_side};
 
 use crate::rope::Rope;
 use crate::{Piece, SchemaParts};
@@ -92,7 +93,8 @@ fn push_fragments(
     side: Side,
     pieces: &[Shared<Piece>],
 ) -> Result<(), AllocError>
-    ensures { OnOk result (out.new ≡ out.old ++ (separator true ++ member_text (name.now, text (fragments side pieces.now)))) }
+    ensures { OnOk result
+        (out.new ≡ out.old ++ (separator true ++ member_text (name.now, text (fragments side pieces.now)))) }
 {
     out.push(alloc, label_of(alloc, true, name)?)?;
     out.push_bytes(alloc, b"{")?;

@@ -41,8 +41,10 @@ fn len_of(pieces: &[Shared<Row<u8>>]) -> Result<usize, AllocError>
 }
 
 fn write_pieces<K: Sink>(pieces: &[Shared<Row<u8>>], sink: &mut K) -> Result<(), Failed>
-    ensures ok { OnOk result (Appends (K.written sink.old) (K.written sink.new) (flat_map (λ piece. piece) pieces.now)) }
-    ensures err { OnErr result (AppendsPrefix (K.written sink.old) (K.written sink.new) (flat_map (λ piece. piece) pieces.now)) }
+    ensures ok { OnOk result
+        (Appends (K.written sink.old) (K.written sink.new) (flat_map (λ piece. piece) pieces.now)) }
+    ensures err { OnErr result
+        (AppendsPrefix (K.written sink.old) (K.written sink.new) (flat_map (λ piece. piece) pieces.now)) }
     ensures cause { HasCause (K.write_faults sink.old) (K.write_faults sink.new) result }
 {
     for piece in pieces {

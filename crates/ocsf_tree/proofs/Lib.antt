@@ -4,6 +4,7 @@ pub mod FirstOfEach
 pub mod Joined
 pub mod Keys
 pub mod LeastFaults
+pub mod Leasts
 pub mod NameLists
 pub mod Order
 pub mod Places

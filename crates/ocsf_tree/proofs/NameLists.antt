@@ -10,6 +10,7 @@ use Rattle.std.specs.FinMap.{slice_cmp-IsAntisymmetric, nat_cmp-IsAntisymmetric}
 use Rattle.std.specs.FinMap.Entries.{by_order, below_all}
 use Rattle.std.specs.List.{insert}
 use Rattle.std.specs.List.Sorted.{IsNonDecreasingBy, IsPartitionPoint, IsBinarySearchResult}
+use Rattle.ocsf_tree.proofs.Leasts.{is_less}
 use Rattle.ocsf_tree.specs.ByName.{text_cmp, named, at_name, is_by_name, IsByName, put_by_name}
 
 o : IsTotalOrder text_cmp
@@ -34,11 +35,6 @@ flip_equal a b e = o.antisymm b a ∙ ap ordering_reverse e
 
 flip_greater : (a b : List ℕ) → text_cmp a b ≡ Greater → text_cmp b a ≡ Less
 flip_greater a b e = o.antisymm b a ∙ ap ordering_reverse e
-
-less_of : (r : Ordering) → is_lt r ≡ true → r ≡ Less
-less_of Less h = refl
-less_of Equal h = cc
-less_of Greater h = cc
 
 first : (a b : Bool) → (a && b) ≡ true → a ≡ true
 first true b h = refl
@@ -77,7 +73,7 @@ apart_from a Greater n rest = refl
 module _ {X : Type 0} (name : X → List ℕ) where
   pub below_at : (k : List ℕ) (xs : List X) (i : ℕ) (d : X) → below_all text_cmp k (named name xs) ≡ true → i < length xs → text_cmp k (name (get_or xs i d)) ≡ Less
   below_at k [] i d h l = absurd (omega arith)
-  below_at k (x ∷ xs) zero d h l = less_of (text_cmp k (name x)) (first (is_lt (text_cmp k (name x))) (below_all text_cmp k (named name xs)) h)
+  below_at k (x ∷ xs) zero d h l = is_less (text_cmp k (name x)) (first (is_lt (text_cmp k (name x))) (below_all text_cmp k (named name xs)) h)
   below_at k (x ∷ xs) (suc i) d h l = below_at k xs i d (second (is_lt (text_cmp k (name x))) (below_all text_cmp k (named name xs)) h) (omega arith)
 
   pub head_below : (x : X) (xs : List X) → IsByName name (x ∷ xs) → below_all text_cmp (name x) (named name xs) ≡ true
@@ -169,7 +165,7 @@ module _ {X : Type 0} (name : X → List ℕ) where
   below_less a b [] e h = refl
   below_less a b (x ∷ xs) e h =
       both (is_lt (text_cmp a (name x))) (below_all text_cmp a (named name xs))
-      (lt a (name x) (o.trans a b (name x) e (less_of (text_cmp b (name x)) (first (is_lt (text_cmp b (name x))) (below_all text_cmp b (named name xs)) h))))
+      (lt a (name x) (o.trans a b (name x) e (is_less (text_cmp b (name x)) (first (is_lt (text_cmp b (name x))) (below_all text_cmp b (named name xs)) h))))
       (below_less a b xs e (second (is_lt (text_cmp b (name x))) (below_all text_cmp b (named name xs)) h))
 
   below_put : (a : List ℕ) (x : X) (xs : List X) → text_cmp a (name x) ≡ Less → below_all text_cmp a (named name xs) ≡ true → below_all text_cmp a (named name (put_by_name name x xs)) ≡ true

@@ -1,7 +1,8 @@
 -- The order of faults, and the least of several.
-use Rattle.std.specs.Prelude.{◌≡◌, ℕ, List, [], ◌∷◌, Bool, false, if◌then◌else◌, Option, Some, None, All, Contains}
+use Rattle.std.specs.Prelude.{ℕ, List, Bool, Option, Some, None}
 use Rattle.std.specs.declared.cmp.Ordering.{Ordering}
 use Rattle.std.specs.Ordering.{ordering_then, is_lt, nat_cmp}
+use Rattle.ocsf_tree.specs.Least.{lesser, least_after, IsLeastBy}
 use Rattle.ocsf_tree.specs.declared.fault.Code.{Code}
 use Rattle.ocsf_tree.specs.declared.fault.Code.TheVariants as code
 use Rattle.ocsf_tree.specs.declared.fault.Fault.{Fault}
@@ -40,16 +41,19 @@ rank code.LastRevision = 80
 
 -- by rank, then by the subject's bytes, then by the name's
 abbrev pub fault_cmp : Fault → Fault → Ordering
-fault_cmp f g = ordering_then (nat_cmp (rank f.code) (rank g.code)) (ordering_then (text_cmp f.subject g.subject) (text_cmp f.name g.name))
+fault_cmp f g =
+    ordering_then (nat_cmp (rank f.code) (rank g.code))
+    (ordering_then (text_cmp f.subject g.subject) (text_cmp f.name g.name))
+
+abbrev pub comes_before : Fault → Fault → Bool
+comes_before f g = is_lt (fault_cmp f g)
 
 -- the least so far, and one fault more
 abbrev pub lesser_fault : Option Fault → Fault → Option Fault
-lesser_fault None f = Some f
-lesser_fault (Some g) f = if is_lt (fault_cmp f g) then Some f else Some g
+lesser_fault least f = lesser comes_before least (Some f)
 
 abbrev pub least_from : Option Fault → List Fault → Option Fault
-least_from least [] = least
-least_from least (f ∷ fs) = least_from (lesser_fault least f) fs
+least_from least faults = least_after comes_before least faults
 
 -- the least of these faults, where there is one
 abbrev pub least_fault : List Fault → Option Fault
@@ -57,8 +61,7 @@ least_fault faults = least_from None faults
 
 -- none where there is no fault, else one of them that no other comes before
 abbrev pub IsLeastOf : List Fault → Option Fault → Type 0
-IsLeastOf faults None = faults ≡ []
-IsLeastOf faults (Some f) = Contains faults f × All (λ g. is_lt (fault_cmp g f) ≡ false) faults
+IsLeastOf faults least = IsLeastBy comes_before faults least
 
 -- the least is one that no other comes before
 abbrev pub LeastIsLeast : Type 0

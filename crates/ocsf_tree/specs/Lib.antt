@@ -4,13 +4,16 @@ pub mod Code
 pub mod CompactText
 pub mod Data
 pub mod Equality
+pub mod Fault
 pub mod FirstInexact
 pub mod FirstOfEach
 pub mod Key
 pub mod Laws
+pub mod Least
 pub mod LeastFault
 pub mod Lookup
 pub mod Place
 pub mod Reading
+pub mod Requirement
 pub mod Valid
 pub mod Among

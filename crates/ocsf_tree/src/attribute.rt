@@ -26,6 +26,37 @@ pub struct Span {
     pub high: i128,
 }
 
+impl Requirement {
+    ghost use Rattle.std.specs.Prelude.{◌≡◌};
+    ghost use Rattle.ocsf_tree.specs.Requirement.{requirement_text, requirement_named};
+
+    /// The requirement of that word.
+    pub fn named(word: &str) -> Option<Requirement>
+        ensures { result ≡ requirement_named word.now }
+    {
+        if word == "required" {
+            Some(Requirement::Required)
+        } else if word == "recommended" {
+            Some(Requirement::Recommended)
+        } else if word == "optional" {
+            Some(Requirement::Optional)
+        } else {
+            None
+        }
+    }
+
+    /// The word by which it is written.
+    pub fn as_str(&self) -> &'static str
+        ensures { result.now ≡ requirement_text self.now }
+    {
+        match self {
+            Requirement::Required => "required",
+            Requirement::Recommended => "recommended",
+            Requirement::Optional => "optional",
+        }
+    }
+}
+
 impl TryClone for EnumMember {
     fn try_clone(&self) -> Result<EnumMember, AllocError> {
         Ok(EnumMember {

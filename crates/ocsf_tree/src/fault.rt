@@ -5,7 +5,7 @@ ghost use Rattle.ocsf_tree.specs.LeastFault.{fault_cmp, lesser_fault};
 
 use crate::text::Text;
 use crate::try_clone::TryClone;
-use std::alloc::AllocError;
+use std::alloc::{AllocError, Global};
 use std::cmp::Ordering;
 
 /// What is wrong with an edit or with the files after it, in the order in which faults are ranked.
@@ -156,6 +156,24 @@ impl Code {
             Code::PatternRefused => 70,
             Code::LastRevision => 80,
         }
+    }
+}
+
+impl Fault {
+    ghost use Rattle.std.specs.Prelude.{◌≡◌, IfOk};
+    ghost use Rattle.ocsf_tree.specs.Fault.{fault};
+
+    /// The fault of that code, with copies of the texts.
+    pub fn of(alloc: Global, code: Code, subject: &str, name: &str) -> Result<Fault, AllocError>
+        ensures { IfOk result (λ made. made ≡ fault code subject.now name.now) }
+    {
+        let subject = Text::of(alloc, subject)?;
+        let name = Text::of(alloc, name)?;
+        Ok(Fault {
+            code,
+            subject,
+            name,
+        })
     }
 }
 

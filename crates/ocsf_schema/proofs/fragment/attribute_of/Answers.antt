@@ -18,7 +18,7 @@ returns c =
       c.in_ok-enumeration_field.ensures,
       c.flag_field.ensures,
       c.in_ok-object_of.ensures,
-      c.requirement_of.ensures,
+      c.as_str.ensures,
       c.type_of.ensures,
       c.as_slice.ensures,
     )
