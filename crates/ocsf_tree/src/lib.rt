@@ -35,4 +35,4 @@ pub use row::Row;
 pub use shared::Shared;
 pub use text::Text;
 pub use tree::{Member, Tree};
-pub use try_clone::TryClone;
+pub use try_clone::{TryClone, both_copied};

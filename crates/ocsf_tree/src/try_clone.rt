@@ -1,6 +1,7 @@
 // A copy that equals its source.
 ghost use Rattle.std.specs.Prelude.{◌≡◌, IfOk};
 
+use crate::text::Text;
 use std::alloc::AllocError;
 
 /// A value of which an equal one can be made, if there is memory for it.
@@ -22,4 +23,17 @@ impl<T: TryClone> TryClone for Option<T> {
             None => Ok(None),
         }
     }
+}
+
+/// Both texts, where they are given, with one more owner each.
+pub fn both_copied(
+    first: &Option<Text>,
+    second: &Option<Text>,
+) -> Result<(Option<Text>, Option<Text>), AllocError>
+    ensures first { IfOk result (λ made. made.0 ≡ first.now) }
+    ensures second { IfOk result (λ made. made.1 ≡ second.now) }
+{
+    let copied = first.try_clone()?;
+    let other = second.try_clone()?;
+    Ok((copied, other))
 }
