@@ -29,11 +29,11 @@ speaks_then a b c ss ts f g = record {
 }
 
 module _ (k : Key) (patches : List PatchOf) (i : ℕ) where
-  pub patches_more : (a b c : List Lent) (s : Lent) (p : PatchOf) → Some p ≡ slice_get patches i → Speaks a b (map (patch_speaker k) (take i patches)) → c ≡ b ++ s ∷ [] → speaker_of s ≡ patch_speaker k p → AreEntriesOrdered s.file.now.attributes
+  pub patches_more : (a b c : List Lent) (p : PatchOf) → Some p ≡ slice_get patches i → Speaks a b (map (patch_speaker k) (take i patches)) → Speaks b c (patch_speaker k p ∷ [])
       → Speaks a c (map (patch_speaker k) (take (i + 1) patches))
-  patches_more a b c s p is before pushed same entries =
+  patches_more a b c p is before one =
       subst (Speaks a c) (sym (ap (map (patch_speaker k)) (take_some patches i p (sym is)) ∙ map-append (patch_speaker k) (take i patches) (p ∷ [])))
-      (speaks_then a b c (map (patch_speaker k) (take i patches)) (patch_speaker k p ∷ []) before (speaks_one b c s (patch_speaker k p) pushed same entries))
+      (speaks_then a b c (map (patch_speaker k) (take i patches)) (patch_speaker k p ∷ []) before one)
 
   pub patches_end : (a b : List Lent) → None ≡ slice_get patches i → Speaks a b (map (patch_speaker k) (take i patches)) → Speaks a b (map (patch_speaker k) patches)
   patches_end a b is before = subst (λ ps. Speaks a b (map (patch_speaker k) ps)) (take_none patches i (sym is)) before

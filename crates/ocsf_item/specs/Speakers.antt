@@ -1,6 +1,7 @@
 -- The files that speak as the code lends them.
-use Rattle.std.specs.Prelude.{◌≡◌, List, ◌++◌, map, All}
+use Rattle.std.specs.Prelude.{◌≡◌, ℕ, List, ◌++◌, map, All}
 use Rattle.ocsf_tree.specs.declared.key.Key.{Key}
+use Rattle.ocsf_raw.specs.declared.files.ItemFile.{ItemFile}
 use Rattle.ocsf_raw.specs.Ordered.{AreEntriesOrdered}
 use Rattle.ocsf_bundle.specs.Looks.{PatchOf}
 use Rattle.ocsf_bundle.specs.declared.cells.Cell.{Cell}
@@ -14,6 +15,10 @@ patch_of p = record { ext = p.ext.now; file = p.file.now }
 
 abbrev pub patches_cell : Key → Cell
 patches_cell k = cell.Patches k
+
+-- a file that speaks for a key, and its extension
+abbrev pub speaks_for : Key → List ℕ → ItemFile → Speaker
+speaks_for k ext file = record { by = k; ext = ext; file = file }
 
 abbrev pub speaker_of : Lent → Speaker
 speaker_of s = record { by = s.by; ext = s.ext; file = s.file.now }

@@ -1,5 +1,5 @@
 // An attribute of an item: what its layers say, joined with the dictionary.
-ghost use Rattle.std.specs.Prelude.{◌≡◌, ◌++◌, ◌∷◌, [], None, IfOk, OnOk, map, unwrap_or, if◌then◌else◌};
+ghost use Rattle.std.specs.Prelude.{◌≡◌, ◌++◌, ◌∷◌, [], None, Some, IfOk, OnOk, map, unwrap_or, if◌then◌else◌};
 ghost use Rattle.std.specs.Option.{option_map, option_copied, option_or};
 ghost use Rattle.ocsf_schema.specs.declared.records.Target.TheVariants.{Anything};
 ghost use Rattle.ocsf_bundle.specs.Looks.{is_there};
@@ -9,7 +9,7 @@ ghost use Rattle.ocsf_rules.specs.Reads.{mark_reads, profile_reads, type_reads};
 ghost use Rattle.ocsf_item.specs.Typed.{type_lent, kind_cell, object_target};
 ghost use Rattle.ocsf_tree.specs.declared.key.Side.TheVariants.{Object};
 
-use crate::dictionary::{given_or, members_joined};
+use crate::dictionary::members_joined;
 use crate::names::{has_slash, in_extension, is_shown, profile_cells, resolve};
 use ocsf_bundle::{Cell, Shows};
 use ocsf_merge::Spoken;
@@ -69,7 +69,7 @@ fn named_profile<B: Shows>(
 {
     let cells = profile_cells(alloc, ext, name)?;
     match resolve(bundle, cells.as_slice(), reads)? {
-        Some(Cell::Profile(key)) => Ok(Some(key)),
+        Some(Cell::Profile(key)) => Ok(Some(key.copy()?)),
         _ => Ok(None),
     }
 }
@@ -150,10 +150,7 @@ fn object_named<B: Shows>(
 {
     let cells = object_cells(alloc, ext, written)?;
     match resolve(bundle, cells.as_slice(), reads)? {
-        Some(Cell::Exists(key)) => {
-            let Key { side: _, name } = key;
-            Ok(Some(Target::Object(name)))
-        }
+        Some(Cell::Exists(key)) => Ok(Some(Target::Object(key.name.copy()?))),
         _ => Ok(open_object(written.name.as_str())),
     }
 }
@@ -196,46 +193,72 @@ fn shows_kind<B: Shows>(bundle: &B, name: &Text, cell: &Cell) -> bool
     is_shown(bundle, cell)
 }
 
-/// The attribute, with the computed enumeration where there is one.
-pub(crate) fn attr_from(
-    alloc: Global,
-    row: &Spoken,
-    said: DictSaid,
-    target: Option<Target>,
-    profile: Option<Text>,
-    computed: Option<Row<EnumMember>>,
-) -> Result<Attr, AllocError>
-    ensures { IfOk result (λ made. made ≡ attr_from row.now said (unwrap_or target Anything) profile computed) }
+/// What is given, or else what is said.
+fn given_or<T: TryClone>(given: &Option<T>, said: &Option<T>) -> Result<Option<T>, AllocError>
+    ensures { IfOk result (λ made. made ≡ option_or given.now said.now) }
 {
-    let members = match computed {
-        Some(members) => members,
-        None => members_of(alloc, &said, row)?,
-    };
-    let DictSaid {
-        caption,
-        description,
-        type_said: _,
-        is_array,
-        sibling,
-        members: _,
-    } = said;
+    if given.is_some() {
+        given.try_clone()
+    } else {
+        said.try_clone()
+    }
+}
+
+/// The texts of an attribute.
+#[derive(Drop)]
+struct Texts {
+    name: Text,
+    caption: Option<Text>,
+    description: Option<Text>,
+    sibling: Option<Text>,
+    group: Option<Text>,
+}
+
+/// The texts of the attribute: those of the layers, else those of the dictionary.
+fn texts_of(row: &Spoken, said: &DictSaid) -> Result<Texts, AllocError>
+    ensures name { IfOk result (λ made. made.name ≡ row.now.attr.name) }
+    ensures caption { IfOk result (λ made. made.caption ≡ option_or row.now.attr.caption said.now.caption) }
+    ensures description { IfOk result (λ made. made.description ≡ option_or row.now.attr.description said.now.description) }
+    ensures sibling { IfOk result (λ made. made.sibling ≡ option_or row.now.attr.sibling said.now.sibling) }
+    ensures group { IfOk result (λ made. made.group ≡ row.now.attr.group) }
+{
     let name = row.attr.name.copy()?;
-    let caption = given_or(&row.attr.caption, caption)?;
-    let description = given_or(&row.attr.description, description)?;
-    let is_array = row.attr.is_array.or(is_array).unwrap_or(false);
-    let requirement = row.attr.requirement.unwrap_or(Requirement::Optional);
+    let caption = given_or(&row.attr.caption, &said.caption)?;
+    let description = given_or(&row.attr.description, &said.description)?;
+    let sibling = given_or(&row.attr.sibling, &said.sibling)?;
     let group = row.attr.group.try_clone()?;
-    let sibling = given_or(&row.attr.sibling, sibling)?;
-    Ok(Attr {
+    Ok(Texts {
         name,
         caption,
         description,
+        sibling,
+        group,
+    })
+}
+
+/// The attribute, with these members.
+pub(crate) fn attr_from(
+    row: &Spoken,
+    said: &DictSaid,
+    target: Option<Target>,
+    profile: Option<Text>,
+    members: Row<EnumMember>,
+) -> Result<Attr, AllocError>
+    ensures { IfOk result (λ made. made ≡ attr_from row.now said.now (unwrap_or target Anything) profile (Some members)) }
+{
+    let texts = texts_of(row, said)?;
+    let is_array = row.attr.is_array.or(said.is_array).unwrap_or(false);
+    let requirement = row.attr.requirement.unwrap_or(Requirement::Optional);
+    Ok(Attr {
+        name: texts.name,
+        caption: texts.caption,
+        description: texts.description,
         target: target.unwrap_or(Target::Anything),
         is_array,
         requirement,
         profile,
-        group,
-        sibling,
+        group: texts.group,
+        sibling: texts.sibling,
         members,
     })
 }

@@ -6,14 +6,12 @@ ghost use Rattle.ocsf_tree.specs.ByName.{text_cmp};
 ghost use Rattle.ocsf_tree.specs.Key.{key_text};
 ghost use Rattle.ocsf_tree.specs.LeastFault.{least_fault};
 ghost use Rattle.ocsf_bundle.specs.Looks.{is_there};
-ghost use Rattle.ocsf_rules.specs.Chain.{written_parent};
-ghost use Rattle.std.specs.Option.{option_copied};
 ghost use Rattle.ocsf_rules.specs.ItemFaults.{same_key, cycle_in, lesser_key, least_key, cycle_fault, limit_fault, parent_fault, faults_along};
 
-use crate::chain::own_file;
+use crate::chain::written_parent;
 use crate::faults::with_fault;
 use ocsf_bundle::Shows;
-use ocsf_tree::{Code, Fault, Key, Side, Text};
+use ocsf_tree::{Code, Fault, Key, Side};
 use std::alloc::AllocError;
 use std::cmp::Ordering;
 
@@ -77,16 +75,6 @@ fn least_key<'a>(first: &'a Key, rest: &'a [Key]) -> &'a Key
         }
     }
     least
-}
-
-/// The parent as it is written.
-fn written_parent<'a, B: Shows>(bundle: &'a B, key: &Key) -> Result<Option<&'a Text>, AllocError>
-    ensures { IfOk result (λ name. option_copied name ≡ written_parent (B.looks bundle.now) key.now) }
-{
-    match own_file(bundle, key)? {
-        Some(file) => Ok(file.parent.as_ref()),
-        None => Ok(None),
-    }
 }
 
 /// The fault of a chain that is too long, or runs into a cycle.

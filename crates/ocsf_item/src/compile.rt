@@ -99,7 +99,7 @@ fn sound_layers<'a, B: Shows>(
         reads: climbed.reads,
         least: None,
     };
-    hear_files(alloc, bundle, &mut walk, speakers.as_slice())?;
+    hear_files(bundle, &mut walk, speakers.as_slice())?;
     let Walk {
         table,
         profiles,

@@ -1,11 +1,11 @@
 // The fields of an item that its files give as a whole.
-ghost use Rattle.std.specs.Prelude.{◌≡◌, map, IfOk};
+ghost use Rattle.std.specs.Prelude.{◌≡◌, map, IfOk, OnOk};
 ghost use Rattle.std.specs.Option.{option_or};
 ghost use Rattle.ocsf_rules.specs.Compiled.{written_in};
 ghost use Rattle.ocsf_item.specs.Given.{given_by, given_over};
 ghost use Rattle.ocsf_item.specs.Speakers.{speaker_of};
 
-use crate::dictionary::given_or;
+use crate::dictionary::give;
 use crate::speakers::Speaker;
 use ocsf_rules::Written;
 use ocsf_tree::{Row, Text};
@@ -21,46 +21,44 @@ pub(crate) struct Given {
     pub just_one: Option<Row<Text>>,
 }
 
-/// The category of the file, or else what was given before.
-fn category_or(
-    speaker: &Speaker<'_>,
-    before: Option<Written>,
-) -> Result<Option<Written>, AllocError>
-    ensures { IfOk result (λ made. made ≡ option_or (written_in (speaker_of speaker.now)) before) }
+/// The category as the file writes it, if it gives one.
+fn written_in(speaker: &Speaker<'_>) -> Result<Option<Written>, AllocError>
+    ensures { IfOk result (λ made. made ≡ written_in (speaker_of speaker.now)) }
 {
     match &speaker.file.category {
-        Some(name) => Ok(Some(Written {
-            name: name.copy()?,
-            ext: speaker.ext.copy()?,
-        })),
-        None => Ok(before),
+        Some(name) => {
+            let name = name.copy()?;
+            let ext = speaker.ext.copy()?;
+            Ok(Some(Written { name, ext }))
+        }
+        None => Ok(None),
     }
 }
 
-/// What is given with one file more, the last.
-fn with_file(given: Given, speaker: &Speaker<'_>) -> Result<Given, AllocError>
-    ensures { IfOk result (λ made. made ≡ given_over (speaker_of speaker.now) given) }
+/// The category of the file takes the place of what was given before.
+fn give_category(speaker: &Speaker<'_>, category: &mut Option<Written>) -> Result<(), AllocError>
+    ensures { OnOk result (category.new ≡ option_or (written_in (speaker_of speaker.now)) category.old) }
 {
-    let Given {
-        caption,
-        description,
-        category,
-        at_least_one,
-        just_one,
-    } = given;
+    match written_in(speaker)? {
+        Some(written) => {
+            *category = Some(written);
+            Ok(())
+        }
+        None => Ok(()),
+    }
+}
+
+/// One file more, the last.
+fn add_file(given: &mut Given, speaker: &Speaker<'_>) -> Result<(), AllocError>
+    ensures { OnOk result (given.new ≡ given_over (speaker_of speaker.now) given.old) }
+{
     let file = speaker.file;
-    let caption = given_or(&file.caption, caption)?;
-    let description = given_or(&file.description, description)?;
-    let category = category_or(speaker, category)?;
-    let at_least_one = given_or(&file.at_least_one, at_least_one)?;
-    let just_one = given_or(&file.just_one, just_one)?;
-    Ok(Given {
-        caption,
-        description,
-        category,
-        at_least_one,
-        just_one,
-    })
+    give(&file.caption, &mut given.caption)?;
+    give(&file.description, &mut given.description)?;
+    give_category(speaker, &mut given.category)?;
+    give(&file.at_least_one, &mut given.at_least_one)?;
+    give(&file.just_one, &mut given.just_one)?;
+    Ok(())
 }
 
 /// What these files give.
@@ -75,7 +73,7 @@ pub(crate) fn given_by(speakers: &[Speaker<'_>]) -> Result<Given, AllocError>
         just_one: None,
     };
     for speaker in speakers {
-        given = with_file(given, speaker)?;
+        add_file(&mut given, speaker)?;
     }
     Ok(given)
 }

@@ -1,5 +1,6 @@
 // How names resolve: the cells that a name leads to, tried in order.
 ghost use Rattle.std.specs.Prelude.{◌≡◌, ◌++◌, IfOk, OnOk};
+ghost use Rattle.std.specs.Option.{option_copied};
 ghost use Rattle.ocsf_rules.specs.Names.{ext_of, has_slash, in_extension, key_in, item_cells, profile_cells, category_cells, include_cells, is_shown, found, tried};
 
 use ocsf_bundle::{Cell, Shows};
@@ -117,19 +118,19 @@ pub(crate) fn is_shown<B: Shows>(bundle: &B, cell: &Cell) -> bool
 }
 
 /// The first of these cells that shows something. The cells tried are read.
-pub(crate) fn resolve<B: Shows>(
+pub(crate) fn resolve<'a, B: Shows>(
     bundle: &B,
-    cells: &[Cell],
+    cells: &'a [Cell],
     reads: &mut Row<Cell>,
-) -> Result<Option<Cell>, AllocError>
-    ensures found { IfOk result (λ made. made ≡ found (B.looks bundle.now) cells.now) }
+) -> Result<Option<&'a Cell>, AllocError>
+    ensures found { IfOk result (λ made. option_copied made ≡ found (B.looks bundle.now) cells.now) }
     ensures reads { OnOk result (reads.new ≡ reads.old ++ tried (B.looks bundle.now) cells.now) }
 {
     for cell in cells {
         let there = is_shown(bundle, cell);
         reads.push(cell.try_clone()?)?;
         if there {
-            return Ok(Some(cell.try_clone()?));
+            return Ok(Some(cell));
         }
     }
     Ok(None)

@@ -126,8 +126,7 @@ fn enumeration<B: Shows>(
     ensures { IfOk result (λ made. made ≡ enumeration (B.looks bundle.now) row.now) }
 {
     let said = dict_said(alloc, bundle, &row.attr.name)?;
-    let made = members_of(alloc, &said, row)?;
-    Ok(made)
+    members_of(alloc, &said, row)
 }
 
 /// The enumeration of `activity_id`, if that is present.

@@ -1,9 +1,9 @@
 // The files that speak along a chain.
-ghost use Rattle.std.specs.Prelude.{◌≡◌, [], OnOk, IfOk, IfSome, slice_get, flat_map, map};
+ghost use Rattle.std.specs.Prelude.{◌≡◌, [], ◌∷◌, OnOk, IfOk, IfSome, slice_get, flat_map, map};
 ghost use Rattle.std.specs.Option.{option_map, option_to_list};
 ghost use Rattle.ocsf_raw.specs.Ordered.{AreEntriesOrdered};
 ghost use Rattle.ocsf_rules.specs.Chain.{own_file, own_speaker, patch_speaker, speakers_of};
-ghost use Rattle.ocsf_item.specs.Speakers.{patch_of, speaker_of, patches_cell, Speaks, AreSpeakersOrdered};
+ghost use Rattle.ocsf_item.specs.Speakers.{patch_of, speaker_of, speaks_for, patches_cell, Speaks, AreSpeakersOrdered};
 
 use crate::chain::own_file;
 use crate::names::{ext_of, has_slash};
@@ -40,6 +40,54 @@ fn patch_at<'a, B: Shows>(bundle: &'a B, key: &Key, cell: &Cell, k: usize) -> Op
     }
 }
 
+/// A file that speaks for the key.
+fn push_speaker<'a>(
+    key: &Key,
+    ext: Text,
+    file: &'a ItemFile,
+    speakers: &mut Vec<Speaker<'a>>,
+) -> Result<(), AllocError>
+    requires { AreEntriesOrdered file.now.attributes }
+    ensures { OnOk result (Speaks speakers.old.items speakers.new.items (speaks_for key.now ext file.now ∷ [])) }
+{
+    let by = key.try_clone()?;
+    speakers.push(Speaker { by, ext, file })?;
+    Ok(())
+}
+
+/// The patch of the key.
+fn push_patch<'a>(
+    key: &Key,
+    patch: Patch<'a>,
+    speakers: &mut Vec<Speaker<'a>>,
+) -> Result<(), AllocError>
+    requires { AreEntriesOrdered patch.file.now.attributes }
+    ensures { OnOk result (Speaks speakers.old.items speakers.new.items (patch_speaker key.now (patch_of patch.entry) ∷ [])) }
+{
+    let ext = patch.ext.name.copy()?;
+    push_speaker(key, ext, patch.file, speakers)?;
+    Ok(())
+}
+
+/// The patches of the key, for which the cell asks.
+fn push_shown<'a, B: Shows>(
+    bundle: &'a B,
+    key: &Key,
+    cell: &Cell,
+    speakers: &mut Vec<Speaker<'a>>,
+) -> Result<(), AllocError>
+    requires { cell.now ≡ patches_cell key.now }
+    ensures { OnOk result (Speaks speakers.old.items speakers.new.items (map (patch_speaker key.now) ((B.looks bundle.now).patches key.now))) }
+{
+    for k in 0..bundle.most() {
+        match patch_at(bundle, key, cell, k) {
+            Some(patch) => push_patch(key, patch, speakers)?,
+            None => return Ok(()),
+        }
+    }
+    Ok(())
+}
+
 /// The patches of the key.
 fn push_patches<'a, B: Shows>(
     bundle: &'a B,
@@ -49,17 +97,7 @@ fn push_patches<'a, B: Shows>(
     ensures { OnOk result (Speaks speakers.old.items speakers.new.items (map (patch_speaker key.now) ((B.looks bundle.now).patches key.now))) }
 {
     let cell = Cell::Patches(key.try_clone()?);
-    for k in 0..bundle.most() {
-        match patch_at(bundle, key, &cell, k) {
-            Some(patch) => {
-                let by = key.try_clone()?;
-                let ext = patch.ext.name.copy()?;
-                let file = patch.file;
-                speakers.push(Speaker { by, ext, file })?;
-            }
-            None => return Ok(()),
-        }
-    }
+    push_shown(bundle, key, &cell, speakers)?;
     Ok(())
 }
 
@@ -74,9 +112,8 @@ fn push_own<'a, B: Shows>(
 {
     match own_file(bundle, key)? {
         Some(file) => {
-            let by = key.try_clone()?;
             let ext = Text::of(alloc, ext_of(key.name.as_str()))?;
-            speakers.push(Speaker { by, ext, file })?;
+            push_speaker(key, ext, file, speakers)?;
             Ok(())
         }
         None => Ok(()),
