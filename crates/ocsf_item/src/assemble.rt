@@ -4,7 +4,7 @@ ghost use Rattle.std.specs.Option.{option_map};
 ghost use Rattle.ocsf_tree.specs.FirstOfEach.{first_of_each};
 ghost use Rattle.ocsf_rules.specs.declared.category.Category.{Category};
 ghost use Rattle.ocsf_item.specs.Assembled.{item_from};
-ghost use Rattle.ocsf_item.specs.Ranges.{IsCategoryInRange};
+ghost use Rattle.ocsf_walk.specs.Ranges.{IsCategoryInRange};
 
 use crate::categories::category_number;
 use crate::own::Own;

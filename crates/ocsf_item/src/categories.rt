@@ -1,20 +1,20 @@
 // The category of a class, and the numbers of both.
-ghost use Rattle.std.specs.Prelude.{◌≡◌, ◌≤◌, ◌++◌, [], ℕ, IfOk, OnOk, IfSome};
+ghost use Rattle.std.specs.Prelude.{◌≡◌, ◌≤◌, ◌++◌, [], IfOk, OnOk, IfSome};
 ghost use Rattle.std.specs.Option.{option_map, option_map_or, option_and_then};
 ghost use Rattle.ocsf_kind.specs.Numbers.{class_uid};
 ghost use Rattle.ocsf_rules.specs.declared.category.Category.{Category};
 ghost use Rattle.ocsf_rules.specs.Names.{first_of, tried, category_cells};
 ghost use Rattle.ocsf_rules.specs.Compiled.{category_of, category_at, category_named, category_number, ext_uid};
 ghost use Rattle.ocsf_bundle.specs.Looks.{BuiltIn, Listed};
-ghost use Rattle.ocsf_item.specs.Ranges.{IsCategoryInRange};
-ghost use Rattle.ocsf_item.specs.Typed.{category_cell, ext_cell};
+ghost use Rattle.ocsf_walk.specs.Ranges.{IsCategoryInRange};
+ghost use Rattle.ocsf_walk.specs.Typed.{category_cell, ext_cell};
 
-use crate::names::{category_cells, resolve};
 use ocsf_bundle::{Cell, Part, Shows};
 use ocsf_kind::class_uid;
 use ocsf_raw::CategoryEntry;
 use ocsf_rules::{Category, Written};
 use ocsf_tree::{Row, Text, TryClone};
+use ocsf_walk::{category_cells, resolve};
 use std::alloc::{AllocError, Global};
 
 /// The category that is built in, with that key.

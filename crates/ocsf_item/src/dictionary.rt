@@ -1,7 +1,6 @@
 // What the dictionaries say of an attribute.
-ghost use Rattle.std.specs.Prelude.{◌≡◌, [], ◌∷◌, ◌++◌, List, Some, IfOk, OnOk, slice_get};
+ghost use Rattle.std.specs.Prelude.{◌≡◌, ◌++◌, Some, IfOk, OnOk, slice_get};
 ghost use Rattle.std.specs.Option.{option_map, option_or};
-ghost use Rattle.ocsf_bundle.specs.Looks.{DictOf};
 ghost use Rattle.ocsf_rules.specs.Attribute.{dict_said, type_said_in};
 ghost use Rattle.ocsf_item.specs.Dictionary.{dict_of, dict_cell, dict_over};
 
@@ -9,6 +8,7 @@ use ocsf_bundle::{Cell, Part, Shows};
 use ocsf_raw::DictEntry;
 use ocsf_rules::{DictSaid, TypeSaid};
 use ocsf_tree::{EnumMember, Row, Text, TryClone};
+use ocsf_walk::give;
 use std::alloc::{AllocError, Global};
 
 /// An entry of a dictionary, and the extension of its file.
@@ -16,20 +16,6 @@ use std::alloc::{AllocError, Global};
 pub(crate) struct DictLayer<'a> {
     pub ext: &'a str,
     pub entry: &'a DictEntry,
-}
-
-/// What is given takes the place of what was said before.
-pub(crate) fn give<T: TryClone>(given: &Option<T>, field: &mut Option<T>) -> Result<(), AllocError>
-    ensures { OnOk result (field.new ≡ option_or given.now field.old) }
-{
-    match given {
-        Some(given) => {
-            let given = given.try_clone()?;
-            *field = Some(given);
-            Ok(())
-        }
-        None => Ok(()),
-    }
 }
 
 /// The flag given, or else that said before.

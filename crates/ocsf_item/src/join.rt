@@ -6,20 +6,19 @@ ghost use Rattle.ocsf_rules.specs.Attribute.{dict_said, members_of, target_of, a
 ghost use Rattle.ocsf_rules.specs.Compiled.{computed};
 ghost use Rattle.ocsf_item.specs.Dictionary.{dict_cell};
 ghost use Rattle.ocsf_rules.specs.ItemFaults.{attribute_fault};
-ghost use Rattle.ocsf_item.specs.Ranges.{IsNumberedInRange};
+ghost use Rattle.ocsf_walk.specs.Ranges.{IsNumberedInRange};
 ghost use Rattle.ocsf_rules.specs.Reads.{dict_reads, attribute_reads};
 ghost use Rattle.ocsf_item.specs.Joined.{Joins};
 
-use crate::attribute::{attr_from, members_of, profile_of, target_named, type_of};
-use crate::computed::computed;
+use crate::attribute::{attr_from, members_of, profile_of};
 use crate::dictionary::dict_said;
 use crate::faults::with_attribute;
-use crate::names::is_shown;
 use ocsf_bundle::{Cell, Shows};
 use ocsf_merge::Spoken;
 use ocsf_rules::{DictSaid, Numbered};
 use ocsf_schema::{Attr, Target};
 use ocsf_tree::{EnumMember, Fault, Key, Row, Text};
+use ocsf_walk::{computed, is_shown, target_named, type_of};
 use std::alloc::{AllocError, Global};
 
 /// The attributes joined so far.

@@ -6,25 +6,23 @@ ghost use Rattle.ocsf_merge.specs.Table.{table_of};
 ghost use Rattle.ocsf_rules.specs.Names.{ext_of};
 ghost use Rattle.ocsf_rules.specs.Chain.{speakers, layers};
 ghost use Rattle.ocsf_rules.specs.Attribute.{attr_of};
-ghost use Rattle.ocsf_rules.specs.Compiled.{caption, description, uid, is_hidden, category, class_number, numbered, computed, at_least_one, just_one};
+ghost use Rattle.ocsf_rules.specs.Compiled.{caption, description, is_hidden, category, class_number, numbered, computed, at_least_one, just_one};
 ghost use Rattle.ocsf_rules.specs.ItemFaults.{own_faults, activity_faults, category_fault, attribute_fault, absent_fault, size_fault};
-ghost use Rattle.ocsf_item.specs.Ranges.{IsCategoryInRange, IsNumberedInRange};
+ghost use Rattle.ocsf_walk.specs.Ranges.{IsCategoryInRange, IsNumberedInRange};
 ghost use Rattle.ocsf_rules.specs.Reads.{category_reads, attribute_reads};
-ghost use Rattle.ocsf_item.specs.Speakers.{speaker_of};
+ghost use Rattle.ocsf_walk.specs.Speakers.{speaker_of};
 
 use crate::assemble::{Lists, list_or_none};
 use crate::class::{ClassParts, class_parts};
 use crate::faults::with_rest;
-use crate::given::given_by;
 use crate::join::{Joined, join_all};
-use crate::names::ext_of;
 use crate::own::{Own, own_of};
-use crate::speakers::Speaker;
 use ocsf_bundle::{Cell, Shows};
 use ocsf_merge::Spoken;
 use ocsf_rules::Category;
 use ocsf_schema::Attr;
 use ocsf_tree::{Fault, Key, Row, Text};
+use ocsf_walk::{Speaker, ext_of, given_by};
 use std::alloc::{AllocError, Global};
 
 /// The parts of an item.
