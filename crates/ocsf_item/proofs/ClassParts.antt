@@ -13,8 +13,8 @@ use Rattle.ocsf_rules.specs.declared.numbered.Numbered.{Numbered}
 use Rattle.ocsf_rules.specs.Names.{ext_of}
 use Rattle.ocsf_rules.specs.Compiled.{uid, category, ext_uid, class_number, caption_or_key, activities, numbered}
 use Rattle.ocsf_rules.specs.ItemFaults.{fault, is_small_decimal, activity_fault, activity_faults, activities_faults}
-use Rattle.ocsf_item.specs.Ranges.{are_small}
-use Rattle.ocsf_item.specs.Digits.{numbered_by}
+use Rattle.ocsf_walk.specs.Ranges.{are_small}
+use Rattle.ocsf_walk.specs.Digits.{numbered_by}
 
 pub number_is : (b : Looks) (k : Key) (ext : ℕ) (made : Option Category) (u : Option ℕ) → ext ≡ ext_uid b (ext_of k.name) → made ≡ category b k → u ≡ uid b k
     → option_and_then (λ u. option_map (λ (c : Category). class_uid ext c.uid u) made) u ≡ class_number b k

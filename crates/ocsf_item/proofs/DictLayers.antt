@@ -6,7 +6,7 @@ use Rattle.ocsf_bundle.specs.Looks.{DictOf}
 use Rattle.ocsf_rules.specs.declared.said.DictSaid.{DictSaid}
 use Rattle.ocsf_rules.specs.Attribute.{dict_said, first_said, type_said_in}
 use Rattle.ocsf_item.specs.Dictionary.{dict_over}
-use Rattle.ocsf_item.proofs.Lists.{take_none, take_some, take_all}
+use Rattle.ocsf_walk.proofs.Lists.{take_none, take_some, take_all}
 
 -- one layer more, the last
 dict_said-push : (ds : List DictOf) (d : DictOf) → dict_over d (dict_said ds) ≡ dict_said (ds ++ d ∷ [])

@@ -8,8 +8,8 @@ use Rattle.ocsf_schema.specs.declared.records.Attr.{Attr}
 use Rattle.ocsf_bundle.specs.declared.cells.Cell.{Cell}
 use Rattle.ocsf_item.specs.declared.join.Joined.{Joined}
 use Rattle.ocsf_item.specs.Joined.{Joins}
-use Rattle.ocsf_item.proofs.Chains.{least_from-append}
-use Rattle.ocsf_item.proofs.Lists.{flat_map_more}
+use Rattle.ocsf_walk.proofs.Chains.{least_from-append}
+use Rattle.ocsf_walk.proofs.Lists.{flat_map_more}
 
 map_more : {X Y : Type 0} (f : X → Y) (xs : List X) (i : ℕ) (x : X) → i < length xs → x ≡ slice_index_or xs i x → map f (take (i + 1) xs) ≡ map f (take i xs) ++ f x ∷ []
 map_more f xs i x h is = ap (map f) (take_more xs i x h ∙ ap (λ y. take i xs ++ y ∷ []) (sym is)) ∙ map-append f (take i xs) (x ∷ [])

@@ -12,7 +12,7 @@ use Rattle.ocsf_merge.specs.Table.{table_of}
 use Rattle.ocsf_rules.specs.Chain.{layers}
 use Rattle.ocsf_rules.specs.Compiled.{at_least_one, just_one}
 use Rattle.ocsf_rules.specs.ItemFaults.{chain_faults, layers_faults, own_faults, item_fault, activity_faults, category_fault, attribute_fault, absent_fault, constraint_fault, size_fault}
-use Rattle.ocsf_item.proofs.Chains.{least_from-append}
+use Rattle.ocsf_walk.proofs.Chains.{least_from-append}
 
 pub chain_first : (b : Looks) (k : Key) (f : Fault) → least_fault (chain_faults b k) ≡ Some f → item_fault b k ≡ Some f
 unfolding item_fault

@@ -1,12 +1,4 @@
-pub mod Files
-pub mod Slashes
-pub mod Chains
-pub mod Lists
-pub mod Speeches
-pub mod Hearings
 pub mod DictLayers
-pub mod Givings
-pub mod Cycles
 pub mod Ordered
 pub mod Joinings
 pub mod Leasts

@@ -1,10 +1,4 @@
 pub mod Dictionary
-pub mod Typed
-pub mod Given
-pub mod Ranges
-pub mod Digits
-pub mod Speakers
-pub mod Walk
 pub mod Joined
 pub mod Built
 pub mod Assembled

@@ -1,9 +1,10 @@
 // An item from its parts.
 ghost use Rattle.std.specs.Prelude.{◌≡◌, [], IfOk, IfSome, unwrap_or};
 ghost use Rattle.std.specs.Option.{option_map};
+ghost use Rattle.ocsf_tree.specs.FirstOfEach.{first_of_each};
 ghost use Rattle.ocsf_rules.specs.declared.category.Category.{Category};
 ghost use Rattle.ocsf_item.specs.Assembled.{item_from};
-ghost use Rattle.ocsf_item.specs.Ranges.{IsCategoryInRange};
+ghost use Rattle.ocsf_walk.specs.Ranges.{IsCategoryInRange};
 
 use crate::categories::category_number;
 use crate::own::Own;
@@ -41,6 +42,22 @@ pub(crate) struct Lists {
     pub just_one: Row<Text>,
 }
 
+/// The key of an item, and the profiles of its layers, each once.
+#[derive(Drop)]
+struct Headed {
+    key: Key,
+    profiles: Row<Text>,
+}
+
+fn head_of(alloc: Global, key: &Key, profiles: &[Text]) -> Result<Headed, AllocError>
+    ensures key { IfOk result (λ made. made.key ≡ key.now) }
+    ensures profiles { IfOk result (λ made. made.profiles ≡ first_of_each (λ p. p) profiles.now) }
+{
+    let profiles = first_of_each(alloc, profiles)?;
+    let key = key.try_clone()?;
+    Ok(Headed { key, profiles })
+}
+
 /// The item of these parts.
 pub(crate) fn assembled(
     alloc: Global,
@@ -55,12 +72,11 @@ pub(crate) fn assembled(
     requires { IfSome category IsCategoryInRange }
     ensures { IfOk result (λ made. made ≡ item_from key.now parent own category number lists.profiles lists.at_least_one lists.just_one attrs) }
 {
-    let key = key.try_clone()?;
-    let profiles = first_of_each(alloc, lists.profiles.as_slice())?;
+    let head = head_of(alloc, key, lists.profiles.as_slice())?;
     let category_uid = category_number(&category);
     let category = category_key(category);
     Ok(Item {
-        key,
+        key: head.key,
         caption: own.caption,
         description: own.description,
         parent,
@@ -68,7 +84,7 @@ pub(crate) fn assembled(
         category,
         category_uid,
         class_uid: number,
-        profiles,
+        profiles: head.profiles,
         at_least_one: lists.at_least_one,
         just_one: lists.just_one,
         attrs,

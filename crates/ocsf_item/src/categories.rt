@@ -1,49 +1,83 @@
 // The category of a class, and the numbers of both.
-ghost use Rattle.std.specs.Prelude.{◌≡◌, ◌≤◌, ◌++◌, [], ℕ, IfOk, OnOk, IfSome};
+ghost use Rattle.std.specs.Prelude.{◌≡◌, ◌≤◌, ◌++◌, [], IfOk, OnOk, IfSome};
 ghost use Rattle.std.specs.Option.{option_map, option_map_or, option_and_then};
 ghost use Rattle.ocsf_kind.specs.Numbers.{class_uid};
 ghost use Rattle.ocsf_rules.specs.declared.category.Category.{Category};
 ghost use Rattle.ocsf_rules.specs.Names.{first_of, tried, category_cells};
-ghost use Rattle.ocsf_rules.specs.Compiled.{category_of, category_named, category_number, ext_uid};
-ghost use Rattle.ocsf_item.specs.Ranges.{IsCategoryInRange};
+ghost use Rattle.ocsf_rules.specs.Compiled.{category_of, category_at, category_named, category_number, ext_uid};
+ghost use Rattle.ocsf_bundle.specs.Looks.{BuiltIn, Listed};
+ghost use Rattle.ocsf_walk.specs.Ranges.{IsCategoryInRange};
+ghost use Rattle.ocsf_walk.specs.Typed.{category_cell, ext_cell};
 
-use crate::names::{category_cells, resolve};
 use ocsf_bundle::{Cell, Part, Shows};
 use ocsf_kind::class_uid;
+use ocsf_raw::CategoryEntry;
 use ocsf_rules::{Category, Written};
 use ocsf_tree::{Row, Text, TryClone};
+use ocsf_walk::{category_cells, resolve};
 use std::alloc::{AllocError, Global};
 
-/// The category of that key.
+/// The category that is built in, with that key.
+fn built_in(alloc: Global, key: &Text) -> Result<Category, AllocError>
+    ensures category { IfOk result (λ made. made ≡ category_of key.now BuiltIn) }
+    ensures range { IfOk result IsCategoryInRange }
+{
+    let caption = Text::of(alloc, "Uncategorized")?;
+    let key = key.copy()?;
+    Ok(Category {
+        key,
+        ext_uid: 0,
+        uid: 0,
+        caption: Some(caption),
+    })
+}
+
+/// The category of that entry of an extension with that uid.
+fn listed(key: &Text, ext_uid: u32, entry: &CategoryEntry) -> Result<Category, AllocError>
+    requires extension { ext_uid ≤ 999 }
+    requires entry { entry.now.uid ≤ 99 }
+    ensures category { IfOk result (λ made. made ≡ category_of key.now (Listed ext_uid entry.now)) }
+    ensures range { IfOk result IsCategoryInRange }
+{
+    let caption = entry.caption.try_clone()?;
+    let key = key.copy()?;
+    Ok(Category {
+        key,
+        ext_uid,
+        uid: entry.uid,
+        caption,
+    })
+}
+
+/// The category of that key, which the cell asks for.
+fn category_shown<B: Shows>(
+    alloc: Global,
+    bundle: &B,
+    key: &Text,
+    cell: &Cell,
+) -> Result<Option<Category>, AllocError>
+    requires { cell.now ≡ category_cell key.now }
+    ensures category { IfOk result (λ made. made ≡ option_map (category_of key.now) (first_of ((B.looks bundle.now).categories key.now))) }
+    ensures range { IfOk result (λ made. IfSome made IsCategoryInRange) }
+{
+    match bundle.look(cell, 0) {
+        Some(Part::Other) => Ok(Some(built_in(alloc, key)?)),
+        Some(Part::Category(ext_uid, entry)) => Ok(Some(listed(key, ext_uid, entry)?)),
+        _ => Ok(None),
+    }
+}
+
+/// The category that the cell shows, if it asks for one.
 fn category_at<B: Shows>(
     alloc: Global,
     bundle: &B,
-    key: Text,
+    cell: &Cell,
 ) -> Result<Option<Category>, AllocError>
-    ensures category { IfOk result (λ made. made ≡ option_map (category_of key) (first_of ((B.looks bundle.now).categories key))) }
+    ensures category { IfOk result (λ made. made ≡ category_at (B.looks bundle.now) cell.now) }
     ensures range { IfOk result (λ made. IfSome made IsCategoryInRange) }
 {
-    let cell = Cell::Category(key.copy()?);
-    match bundle.look(&cell, 0) {
-        Some(Part::Other) => {
-            let caption = Some(Text::of(alloc, "Uncategorized")?);
-            Ok(Some(Category {
-                key,
-                ext_uid: 0,
-                uid: 0,
-                caption,
-            }))
-        }
-        Some(Part::Category(ext_uid, entry)) => {
-            let uid = entry.uid;
-            let caption = entry.caption.try_clone()?;
-            Ok(Some(Category {
-                key,
-                ext_uid,
-                uid,
-                caption,
-            }))
-        }
+    match cell {
+        Cell::Category(key) => category_shown(alloc, bundle, key, cell),
         _ => Ok(None),
     }
 }
@@ -61,8 +95,8 @@ fn category_written<B: Shows>(
 {
     let cells = category_cells(alloc, written.ext.as_str(), written.name.as_str())?;
     match resolve(bundle, cells.as_slice(), reads)? {
-        Some(Cell::Category(key)) => category_at(alloc, bundle, key),
-        _ => Ok(None),
+        Some(cell) => category_at(alloc, bundle, cell),
+        None => Ok(None),
     }
 }
 
@@ -83,6 +117,18 @@ pub(crate) fn category_named<B: Shows>(
     }
 }
 
+/// The uid of the extension of that name, for which the cell asks.
+fn uid_shown<B: Shows>(bundle: &B, ext: &str, cell: &Cell) -> u32
+    requires { cell.now ≡ ext_cell ext.now }
+    ensures uid { result ≡ option_map_or (λ file. file.uid) (first_of ((B.looks bundle.now).exts ext.now)) 0 }
+    ensures range { result ≤ 999 }
+{
+    match bundle.look(cell, 0) {
+        Some(Part::Ext(file)) => file.uid,
+        _ => 0,
+    }
+}
+
 /// The uid of the extension of that name, 0 for core.
 pub(crate) fn ext_uid<B: Shows>(alloc: Global, bundle: &B, ext: &str) -> Result<u32, AllocError>
     ensures uid { IfOk result (λ made. made ≡ ext_uid (B.looks bundle.now) ext.now) }
@@ -92,10 +138,7 @@ pub(crate) fn ext_uid<B: Shows>(alloc: Global, bundle: &B, ext: &str) -> Result<
         return Ok(0);
     }
     let cell = Cell::Ext(Text::of(alloc, ext)?);
-    match bundle.look(&cell, 0) {
-        Some(Part::Ext(file)) => Ok(file.uid),
-        _ => Ok(0),
-    }
+    Ok(uid_shown(bundle, ext, &cell))
 }
 
 /// The number of the category.

@@ -1,23 +1,22 @@
 // What a class has besides: its category, its numbers and its computed enumerations.
-ghost use Rattle.std.specs.Prelude.{◌≡◌, ◌++◌, ◌≤◌, [], None, IfOk, IfSome, OnOk, if◌then◌else◌};
+ghost use Rattle.std.specs.Prelude.{◌≡◌, ◌++◌, ◌≤◌, [], None, IfOk, IfSome, OnOk};
 ghost use Rattle.ocsf_tree.specs.LeastFault.{least_from};
 ghost use Rattle.ocsf_merge.specs.Table.{table_of};
 ghost use Rattle.ocsf_rules.specs.Names.{ext_of};
 ghost use Rattle.ocsf_rules.specs.Chain.{speakers, layers};
-ghost use Rattle.ocsf_rules.specs.Compiled.{is_class, last_given, written_in, written_category, category, class_number, activities, numbered, caption, uid};
+ghost use Rattle.ocsf_rules.specs.Compiled.{caption_or_key, ext_uid, last_given, written_in, category, class_number, activities, numbered, caption, uid};
 ghost use Rattle.ocsf_rules.specs.ItemFaults.{activity_faults, category_fault};
-ghost use Rattle.ocsf_item.specs.Ranges.{IsCategoryInRange, IsNumberedInRange};
+ghost use Rattle.ocsf_walk.specs.Ranges.{IsCategoryInRange, IsNumberedInRange};
 ghost use Rattle.ocsf_rules.specs.Reads.{category_reads};
 
 use crate::categories::{category_named, class_number, ext_uid};
-use crate::computed::numbered_by;
 use crate::faults::{with_activities, with_category};
-use crate::names::ext_of;
-use crate::own::{Own, activities, caption_or_key, is_class};
+use crate::own::{Own, activities, caption_or_key};
 use ocsf_bundle::{Cell, Shows};
 use ocsf_merge::Spoken;
 use ocsf_rules::{Category, Numbered, Written};
-use ocsf_tree::{Fault, Key, Row};
+use ocsf_tree::{EnumMember, Fault, Key, Row, Text};
+use ocsf_walk::{ext_of, numbered_by, written_by};
 use std::alloc::{AllocError, Global};
 
 /// What a class has besides. An object has none of it.
@@ -32,11 +31,74 @@ pub(crate) struct ClassParts {
     pub least: Option<Fault>,
 }
 
-/// The category of a class as it is written.
-fn written_by(key: &Key, given: Option<Written>) -> Option<Written>
-    ensures { result ≡ (if is_class key.now then given else None) }
+/// The category of a class, and the least fault so far with that of the category.
+#[derive(Drop)]
+struct Categorized {
+    category: Option<Category>,
+    least: Option<Fault>,
+}
+
+/// The category of a class for which that one is given. The cells tried for it are read.
+fn category_parts<B: Shows>(
+    alloc: Global,
+    bundle: &B,
+    key: &Key,
+    own_uid: Option<u32>,
+    given: Option<Written>,
+    least: Option<Fault>,
+    reads: &mut Row<Cell>,
+) -> Result<Categorized, AllocError>
+    requires uid { own_uid ≡ uid (B.looks bundle.now) key.now }
+    requires given { given ≡ last_given written_in (speakers (B.looks bundle.now) key.now) }
+    ensures category { IfOk result (λ made. made.category ≡ category (B.looks bundle.now) key.now) }
+    ensures least { IfOk result (λ made. made.least ≡ least_from least (category_fault (B.looks bundle.now) key.now)) }
+    ensures range { IfOk result (λ made. IfSome made.category IsCategoryInRange) }
+    ensures reads { OnOk result (reads.new ≡ reads.old ++ category_reads (B.looks bundle.now) key.now) }
 {
-    if is_class(key) { given } else { None }
+    let written = written_by(key, given);
+    let category = category_named(alloc, bundle, &written, reads)?;
+    let least = with_category(least, key, &category, &written, own_uid)?;
+    Ok(Categorized { category, least })
+}
+
+/// What the numbers and the enumerations of an item are made from, besides its category.
+#[derive(Drop)]
+struct Counted {
+    /// The uid of its extension, 0 for core.
+    ext: u32,
+    /// The caption, or the key where there is none.
+    caption: Text,
+    activities: Row<EnumMember>,
+    /// The least fault of its activities.
+    least: Option<Fault>,
+}
+
+fn counts_of<B: Shows>(
+    alloc: Global,
+    bundle: &B,
+    key: &Key,
+    own: &Own,
+    rows: &[Spoken],
+) -> Result<Counted, AllocError>
+    requires caption { own.now.caption ≡ caption (B.looks bundle.now) key.now }
+    requires uid { own.now.uid ≡ uid (B.looks bundle.now) key.now }
+    requires rows { rows.now ≡ table_of (layers (B.looks bundle.now) key.now) }
+    ensures ext { IfOk result (λ made. made.ext ≡ ext_uid (B.looks bundle.now) (ext_of key.now.name)) }
+    ensures range { IfOk result (λ made. made.ext ≤ 999) }
+    ensures caption { IfOk result (λ made. made.caption ≡ caption_or_key (B.looks bundle.now) key.now) }
+    ensures activities { IfOk result (λ made. made.activities ≡ activities (B.looks bundle.now) key.now) }
+    ensures least { IfOk result (λ made. made.least ≡ least_from None (activity_faults (B.looks bundle.now) key.now)) }
+{
+    let ext = ext_uid(alloc, bundle, ext_of(key.name.as_str()))?;
+    let caption = caption_or_key(&own.caption, key)?;
+    let activities = activities(alloc, bundle, rows)?;
+    let least = with_activities(None, key, own.uid, activities.as_slice())?;
+    Ok(Counted {
+        ext,
+        caption,
+        activities,
+        least,
+    })
 }
 
 /// What a class has besides. The cells tried for its category are read.
@@ -62,15 +124,17 @@ pub(crate) fn class_parts<B: Shows>(
     ensures range { IfOk result (λ parts. IfSome parts.numbered IsNumberedInRange) }
     ensures reads { OnOk result (reads.new ≡ reads.old ++ category_reads (B.looks bundle.now) key.now) }
 {
-    let written = written_by(key, given);
-    let category = category_named(alloc, bundle, &written, reads)?;
-    let ext = ext_uid(alloc, bundle, ext_of(key.name.as_str()))?;
+    let counted = counts_of(alloc, bundle, key, own, rows)?;
+    let Counted {
+        ext,
+        caption,
+        activities,
+        least,
+    } = counted;
+    let made = category_parts(alloc, bundle, key, own.uid, given, least, reads)?;
+    let Categorized { category, least } = made;
     let number = class_number(ext, own.uid, &category);
-    let members = activities(alloc, bundle, rows)?;
-    let least = with_activities(None, key, own.uid, members.as_slice())?;
-    let least = with_category(least, key, &category, &written, own.uid)?;
-    let caption = caption_or_key(&own.caption, key)?;
-    let numbered = numbered_by(number, caption, &category, members)?;
+    let numbered = numbered_by(number, caption, &category, activities)?;
     Ok(ClassParts {
         category,
         number,

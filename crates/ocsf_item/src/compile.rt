@@ -1,5 +1,5 @@
 // One item, compiled.
-ghost use Rattle.std.specs.Prelude.{◌≡◌, ◌++◌, [], ⊤, IfOk, IfErr, OnOk, None, map, flat_map, reverse, slice_get};
+ghost use Rattle.std.specs.Prelude.{◌≡◌, ◌++◌, IfOk, IfErr, None, map, flat_map, reverse, slice_get};
 ghost use Rattle.ocsf_tree.specs.declared.key.Key.{Key};
 ghost use Rattle.std.specs.Option.{option_map};
 ghost use Rattle.ocsf_tree.specs.LeastFault.{least_fault};
@@ -9,22 +9,18 @@ ghost use Rattle.ocsf_rules.specs.Chain.{chain, parent, speakers, layers};
 ghost use Rattle.ocsf_rules.specs.Compiled.{profile_keys, item};
 ghost use Rattle.ocsf_rules.specs.ItemFaults.{chain_faults, layers_faults, item_fault};
 ghost use Rattle.ocsf_rules.specs.Reads.{ext_reads, key_reads, speaker_reads, category_reads, attribute_reads, reads};
-ghost use Rattle.ocsf_item.specs.Speakers.{speaker_of, AreSpeakersOrdered};
+ghost use Rattle.ocsf_walk.specs.Speakers.{speaker_of};
 ghost use Rattle.ocsf_item.specs.Built.{IsLeastFault};
 
 use crate::assemble::assembled;
 use crate::build_error::BuildError;
-use crate::chain::chain_of;
-use crate::chain_faults::chain_fault;
-use crate::names::ext_of;
 use crate::order::in_order;
 use crate::parts::{Parts, item_parts};
-use crate::speakers::{Speaker, speakers_along};
-use crate::walk::{Walk, hear_files};
 use ocsf_bundle::{Cell, Shows};
 use ocsf_merge::{Spoken, Table};
 use ocsf_schema::Item;
 use ocsf_tree::{Key, Row, Text, TryClone};
+use ocsf_walk::{Speaker, Walk, chain_fault, chain_of, ext_of, hear_files, speakers_along};
 use std::alloc::{AllocError, Global};
 
 /// The chain of an item, whose faults were looked at.
@@ -99,7 +95,7 @@ fn sound_layers<'a, B: Shows>(
         reads: climbed.reads,
         least: None,
     };
-    hear_files(alloc, bundle, &mut walk, speakers.as_slice())?;
+    hear_files(bundle, &mut walk, speakers.as_slice())?;
     let Walk {
         table,
         profiles,

@@ -1,7 +1,6 @@
 // What the dictionaries say of an attribute.
-ghost use Rattle.std.specs.Prelude.{◌≡◌, [], ◌∷◌, ◌++◌, List, IfOk, slice_get};
+ghost use Rattle.std.specs.Prelude.{◌≡◌, ◌++◌, Some, IfOk, OnOk, slice_get};
 ghost use Rattle.std.specs.Option.{option_map, option_or};
-ghost use Rattle.ocsf_bundle.specs.Looks.{DictOf};
 ghost use Rattle.ocsf_rules.specs.Attribute.{dict_said, type_said_in};
 ghost use Rattle.ocsf_item.specs.Dictionary.{dict_of, dict_cell, dict_over};
 
@@ -9,6 +8,7 @@ use ocsf_bundle::{Cell, Part, Shows};
 use ocsf_raw::DictEntry;
 use ocsf_rules::{DictSaid, TypeSaid};
 use ocsf_tree::{EnumMember, Row, Text, TryClone};
+use ocsf_walk::give;
 use std::alloc::{AllocError, Global};
 
 /// An entry of a dictionary, and the extension of its file.
@@ -16,19 +16,6 @@ use std::alloc::{AllocError, Global};
 pub(crate) struct DictLayer<'a> {
     pub ext: &'a str,
     pub entry: &'a DictEntry,
-}
-
-/// What is given, or else what was said before.
-pub(crate) fn given_or<T: TryClone>(
-    given: &Option<T>,
-    before: Option<T>,
-) -> Result<Option<T>, AllocError>
-    ensures { IfOk result (λ made. made ≡ option_or given.now before) }
-{
-    match given {
-        Some(given) => Ok(Some(given.try_clone()?)),
-        None => Ok(before),
-    }
 }
 
 /// The flag given, or else that said before.
@@ -41,21 +28,31 @@ fn flag_or(given: Option<bool>, before: Option<bool>) -> Option<bool>
     }
 }
 
-/// The type of the entry, or else what was said before.
-fn type_or(
+/// A type as it is written in an entry of that extension.
+fn type_in(alloc: Global, ext: &str, name: &Text) -> Result<TypeSaid, AllocError>
+    ensures { IfOk result (λ made. Some made ≡ type_said_in ext.now (Some name.now)) }
+{
+    let name = name.copy()?;
+    let from = Text::of(alloc, ext)?;
+    Ok(TypeSaid { name, from })
+}
+
+/// The type of the entry takes the place of what was said before.
+fn give_type(
     alloc: Global,
     ext: &str,
     name: &Option<Text>,
-    before: Option<TypeSaid>,
-) -> Result<Option<TypeSaid>, AllocError>
-    ensures { IfOk result (λ made. made ≡ option_or (type_said_in ext.now name.now) before) }
+    field: &mut Option<TypeSaid>,
+) -> Result<(), AllocError>
+    ensures { OnOk result (field.new ≡ option_or (type_said_in ext.now name.now) field.old) }
 {
     match name {
-        Some(name) => Ok(Some(TypeSaid {
-            name: name.copy()?,
-            from: Text::of(alloc, ext)?,
-        })),
-        None => Ok(before),
+        Some(name) => {
+            let said = type_in(alloc, ext, name)?;
+            *field = Some(said);
+            Ok(())
+        }
+        None => Ok(()),
     }
 }
 
@@ -74,34 +71,19 @@ pub(crate) fn members_joined(
     Ok(made)
 }
 
-/// What is said with one layer more, the last.
-fn with_layer(alloc: Global, said: DictSaid, layer: DictLayer<'_>) -> Result<DictSaid, AllocError>
-    ensures { IfOk result (λ made. made ≡ dict_over (dict_of layer.entry) said) }
+/// One layer more, the last.
+fn add_layer(alloc: Global, said: &mut DictSaid, layer: DictLayer<'_>) -> Result<(), AllocError>
+    ensures { OnOk result (said.new ≡ dict_over (dict_of layer.entry) said.old) }
 {
-    let DictSaid {
-        caption,
-        description,
-        type_said,
-        is_array,
-        sibling,
-        members,
-    } = said;
-    let ext = layer.ext;
     let entry = layer.entry;
-    let caption = given_or(&entry.caption, caption)?;
-    let description = given_or(&entry.description, description)?;
-    let type_said = type_or(alloc, ext, &entry.type_name, type_said)?;
-    let is_array = flag_or(entry.is_array, is_array);
-    let sibling = given_or(&entry.sibling, sibling)?;
-    let members = members_joined(alloc, entry.members.as_slice(), members.as_slice())?;
-    Ok(DictSaid {
-        caption,
-        description,
-        type_said,
-        is_array,
-        sibling,
-        members,
-    })
+    give(&entry.caption, &mut said.caption)?;
+    give(&entry.description, &mut said.description)?;
+    give_type(alloc, layer.ext, &entry.type_name, &mut said.type_said)?;
+    said.is_array = flag_or(entry.is_array, said.is_array);
+    give(&entry.sibling, &mut said.sibling)?;
+    let members = members_joined(alloc, entry.members.as_slice(), said.members.as_slice())?;
+    said.members = members;
+    Ok(())
 }
 
 fn layer_at<'a, B: Shows>(
@@ -119,15 +101,16 @@ fn layer_at<'a, B: Shows>(
     }
 }
 
-/// What the dictionaries say of the attribute.
-pub(crate) fn dict_said<B: Shows>(
+/// What the dictionaries say of the attribute, for which the cell asks.
+fn said_at<B: Shows>(
     alloc: Global,
     bundle: &B,
     name: &Text,
+    cell: &Cell,
 ) -> Result<DictSaid, AllocError>
+    requires { cell.now ≡ dict_cell name.now }
     ensures { IfOk result (λ made. made ≡ dict_said ((B.looks bundle.now).dict name.now)) }
 {
-    let cell = Cell::Dict(name.copy()?);
     let mut said = DictSaid {
         caption: None,
         description: None,
@@ -137,10 +120,22 @@ pub(crate) fn dict_said<B: Shows>(
         members: Row::new(alloc),
     };
     for k in 0..bundle.most() {
-        match layer_at(bundle, name, &cell, k) {
-            Some(layer) => said = with_layer(alloc, said, layer)?,
+        match layer_at(bundle, name, cell, k) {
+            Some(layer) => add_layer(alloc, &mut said, layer)?,
             None => return Ok(said),
         }
     }
     Ok(said)
+}
+
+/// What the dictionaries say of the attribute.
+pub(crate) fn dict_said<B: Shows>(
+    alloc: Global,
+    bundle: &B,
+    name: &Text,
+) -> Result<DictSaid, AllocError>
+    ensures { IfOk result (λ made. made ≡ dict_said ((B.looks bundle.now).dict name.now)) }
+{
+    let cell = Cell::Dict(name.copy()?);
+    said_at(alloc, bundle, name, &cell)
 }

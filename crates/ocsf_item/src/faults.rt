@@ -1,38 +1,17 @@
 // What is wrong with an item, but for its chain and its layers.
-ghost use Rattle.std.specs.Prelude.{◌≡◌, ◌∷◌, ◌++◌, [], List, IfOk, flat_map, codes};
+ghost use Rattle.std.specs.Prelude.{◌≡◌, ◌++◌, IfOk, flat_map, codes};
 ghost use Rattle.ocsf_tree.specs.ByName.{IsByName};
-ghost use Rattle.ocsf_tree.specs.Key.{key_text};
 ghost use Rattle.ocsf_tree.specs.LeastFault.{least_from};
 ghost use Rattle.ocsf_rules.specs.ItemFaults.{fault, leads_fault, missing_category, absent_fault, activity_fault, activities_faults, size_fault, type_text};
-ghost use Rattle.ocsf_item.specs.Typed.{type_lent};
+ghost use Rattle.ocsf_walk.specs.Typed.{type_lent};
 ghost use Rattle.std.specs.Option.{option_map};
 
-use crate::attribute::TypeLent;
-use crate::computed::small_number;
 use ocsf_merge::Spoken;
 use ocsf_rules::{Category, Written};
 use ocsf_schema::Target;
-use ocsf_tree::{Code, EnumMember, Fault, Key, Text, find_by_name, lesser_fault};
+use ocsf_tree::{Code, EnumMember, Fault, Key, Text, find_by_name};
+use ocsf_walk::{TypeLent, small_number, with_fault};
 use std::alloc::{AllocError, Global};
-
-/// The least fault with one more.
-pub(crate) fn with_fault(
-    least: Option<Fault>,
-    code: Code,
-    key: &Key,
-    name: &str,
-) -> Result<Option<Fault>, AllocError>
-    ensures { IfOk result (λ made. made ≡ least_from least (fault code (key_text key.now) name.now ∷ [])) }
-{
-    let subject = key.to_text()?;
-    let name = Text::of(key.name.allocator(), name)?;
-    let fault = Fault {
-        code,
-        subject,
-        name,
-    };
-    Ok(lesser_fault(least, fault))
-}
 
 /// The attribute and its type, as a fault names them.
 fn type_name(alloc: Global, name: &str, written: Option<TypeLent<'_>>) -> Result<Text, AllocError>

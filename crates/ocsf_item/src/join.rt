@@ -1,25 +1,24 @@
 // What the layers say of each attribute, joined with the dictionary.
-ghost use Rattle.std.specs.Prelude.{◌≡◌, ◌∷◌, ◌++◌, [], IfOk, IfSome, OnOk, map, flat_map};
+ghost use Rattle.std.specs.Prelude.{◌≡◌, ◌∷◌, ◌++◌, [], IfOk, IfSome, OnOk, map, flat_map, unwrap_or};
 ghost use Rattle.ocsf_bundle.specs.Looks.{is_there};
 ghost use Rattle.ocsf_rules.specs.Names.{ext_of};
-ghost use Rattle.ocsf_rules.specs.Attribute.{dict_said, target_of, attr_of};
+ghost use Rattle.ocsf_rules.specs.Attribute.{dict_said, members_of, target_of, attr_of};
 ghost use Rattle.ocsf_rules.specs.Compiled.{computed};
 ghost use Rattle.ocsf_item.specs.Dictionary.{dict_cell};
 ghost use Rattle.ocsf_rules.specs.ItemFaults.{attribute_fault};
-ghost use Rattle.ocsf_item.specs.Ranges.{IsNumberedInRange};
+ghost use Rattle.ocsf_walk.specs.Ranges.{IsNumberedInRange};
 ghost use Rattle.ocsf_rules.specs.Reads.{dict_reads, attribute_reads};
 ghost use Rattle.ocsf_item.specs.Joined.{Joins};
 
-use crate::attribute::{attr_from, profile_of, target_named, type_of};
-use crate::computed::computed;
+use crate::attribute::{attr_from, members_of, profile_of};
 use crate::dictionary::dict_said;
 use crate::faults::with_attribute;
-use crate::names::is_shown;
 use ocsf_bundle::{Cell, Shows};
 use ocsf_merge::Spoken;
 use ocsf_rules::{DictSaid, Numbered};
 use ocsf_schema::{Attr, Target};
-use ocsf_tree::{Fault, Key, Row, Text};
+use ocsf_tree::{EnumMember, Fault, Key, Row, Text};
+use ocsf_walk::{computed, is_shown, target_named, type_of};
 use std::alloc::{AllocError, Global};
 
 /// The attributes joined so far.
@@ -90,6 +89,51 @@ fn leads_to<B: Shows>(
     }
 }
 
+/// The enumeration of the attribute: the computed one, where it has one.
+fn members_in(
+    alloc: Global,
+    row: &Spoken,
+    said: &DictSaid,
+    numbered: &Option<Numbered>,
+) -> Result<Row<EnumMember>, AllocError>
+    requires { IfSome numbered.now IsNumberedInRange }
+    ensures { IfOk result (λ made. made ≡ unwrap_or (computed numbered.now row.now.attr.name) (members_of said.now row.now)) }
+{
+    match computed(alloc, numbered, row.attr.name.as_str())? {
+        Some(members) => Ok(members),
+        None => members_of(alloc, said, row),
+    }
+}
+
+/// One attribute more, of which the dictionaries say that.
+fn join_said<B: Shows>(
+    alloc: Global,
+    bundle: &B,
+    key: &Key,
+    ext: &str,
+    row: &Spoken,
+    numbered: &Option<Numbered>,
+    joined: &mut Joined,
+    said: &DictSaid,
+) -> Result<(), AllocError>
+    requires range { IfSome numbered.now IsNumberedInRange }
+    requires ext { ext.now ≡ ext_of key.now.name }
+    requires said { said.now ≡ dict_said ((B.looks bundle.now).dict row.now.attr.name) }
+    ensures { OnOk result (Joins joined.old joined.new (attr_of (B.looks bundle.now) ext.now (computed numbered.now row.now.attr.name) row.now ∷ [])
+        (attribute_reads (B.looks bundle.now) ext.now row.now) (attribute_fault (B.looks bundle.now) key.now row.now)) }
+{
+    let name = row.attr.name.as_str();
+    let Leads { there, target } = leads_to(alloc, bundle, ext, row, said, &mut joined.reads)?;
+    let least = joined.least.take();
+    let least = with_attribute(alloc, least, key, name, there, &target, type_of(said, row))?;
+    joined.least = least;
+    let profile = profile_of(alloc, bundle, row, &mut joined.reads)?;
+    let members = members_in(alloc, row, said, numbered)?;
+    let attr = attr_from(row, said, target, profile, members)?;
+    joined.attrs.push(attr)?;
+    Ok(())
+}
+
 /// One attribute more.
 fn join<B: Shows>(
     alloc: Global,
@@ -105,17 +149,8 @@ fn join<B: Shows>(
     ensures { OnOk result (Joins joined.old joined.new (attr_of (B.looks bundle.now) ext.now (computed numbered.now row.now.attr.name) row.now ∷ [])
         (attribute_reads (B.looks bundle.now) ext.now row.now) (attribute_fault (B.looks bundle.now) key.now row.now)) }
 {
-    let name = row.attr.name.as_str();
     let said = dict_said(alloc, bundle, &row.attr.name)?;
-    let Leads { there, target } = leads_to(alloc, bundle, ext, row, &said, &mut joined.reads)?;
-    let least = joined.least.take();
-    let least = with_attribute(alloc, least, key, name, there, &target, type_of(&said, row))?;
-    joined.least = least;
-    let profile = profile_of(alloc, bundle, row, &mut joined.reads)?;
-    let members = computed(alloc, numbered, name)?;
-    let attr = attr_from(alloc, row, said, target, profile, members)?;
-    joined.attrs.push(attr)?;
-    Ok(())
+    join_said(alloc, bundle, key, ext, row, numbered, joined, &said)
 }
 
 /// The attributes of these rows, in order.

@@ -1,20 +1,17 @@
 // What an item has of its own: of its file and the patches of it.
-ghost use Rattle.std.specs.Prelude.{◌≡◌, ◌≤◌, [], IfOk, IfSome, None, false, map, unwrap_or, is_none, codes, if◌then◌else◌};
+ghost use Rattle.std.specs.Prelude.{◌≡◌, ◌≤◌, [], IfOk, IfSome, None, false, unwrap_or, is_none, codes, if◌then◌else◌};
 ghost use Rattle.std.specs.Option.{option_map_or, option_and_then, option_copied};
 ghost use Rattle.ocsf_tree.specs.ByName.{IsByName, at_name};
-ghost use Rattle.ocsf_rules.specs.Chain.{own_file, speakers_of};
+ghost use Rattle.ocsf_rules.specs.Chain.{own_file};
 ghost use Rattle.ocsf_rules.specs.Compiled.{caption, description, caption_or_key, uid, is_hidden, is_class, starts_low, enumeration};
-ghost use Rattle.ocsf_item.specs.Speakers.{speaker_of};
 
 use crate::attribute::members_of;
-use crate::chain::own_file;
 use crate::dictionary::dict_said;
-use crate::given::given_by;
-use crate::speakers::push_speakers_of;
 use ocsf_bundle::Shows;
 use ocsf_merge::Spoken;
 use ocsf_raw::ItemFile;
-use ocsf_tree::{EnumMember, Key, Row, Side, Text, find_by_name};
+use ocsf_tree::{EnumMember, Key, Row, Text, find_by_name};
+use ocsf_walk::{given_by, is_class, own_file, push_speakers_of};
 use std::alloc::{AllocError, Global};
 
 /// What an item has of its own.
@@ -25,15 +22,6 @@ pub(crate) struct Own {
     /// The number of a class.
     pub uid: Option<u32>,
     pub hidden: bool,
-}
-
-pub(crate) fn is_class(key: &Key) -> bool
-    ensures { result ≡ is_class key.now }
-{
-    match key.side {
-        Side::Class => true,
-        Side::Object => false,
-    }
 }
 
 /// The number of a class, as its file gives it.
@@ -126,8 +114,7 @@ fn enumeration<B: Shows>(
     ensures { IfOk result (λ made. made ≡ enumeration (B.looks bundle.now) row.now) }
 {
     let said = dict_said(alloc, bundle, &row.attr.name)?;
-    let made = members_of(alloc, &said, row)?;
-    Ok(made)
+    members_of(alloc, &said, row)
 }
 
 /// The enumeration of `activity_id`, if that is present.

@@ -1,29 +1,28 @@
 // The parts of an item, and what is wrong with them.
-ghost use Rattle.std.specs.Prelude.{◌≡◌, ◌++◌, [], None, IfOk, IfSome, map, flat_map};
-ghost use Rattle.ocsf_tree.specs.LeastFault.{least_fault};
+ghost use Rattle.std.specs.Prelude.{◌≡◌, ◌++◌, [], None, IfOk, OnOk, IfSome, map, flat_map};
+ghost use Rattle.ocsf_tree.specs.LeastFault.{least_fault, least_from};
+ghost use Rattle.ocsf_tree.specs.ByName.{IsByName};
 ghost use Rattle.ocsf_merge.specs.Table.{table_of};
 ghost use Rattle.ocsf_rules.specs.Names.{ext_of};
 ghost use Rattle.ocsf_rules.specs.Chain.{speakers, layers};
 ghost use Rattle.ocsf_rules.specs.Attribute.{attr_of};
-ghost use Rattle.ocsf_rules.specs.Compiled.{caption, description, uid, is_hidden, category, class_number, numbered, computed, at_least_one, just_one};
-ghost use Rattle.ocsf_rules.specs.ItemFaults.{own_faults, activity_faults};
-ghost use Rattle.ocsf_item.specs.Ranges.{IsCategoryInRange};
+ghost use Rattle.ocsf_rules.specs.Compiled.{caption, description, is_hidden, category, class_number, numbered, computed, at_least_one, just_one};
+ghost use Rattle.ocsf_rules.specs.ItemFaults.{own_faults, activity_faults, category_fault, attribute_fault, absent_fault, size_fault};
+ghost use Rattle.ocsf_walk.specs.Ranges.{IsCategoryInRange, IsNumberedInRange};
 ghost use Rattle.ocsf_rules.specs.Reads.{category_reads, attribute_reads};
-ghost use Rattle.ocsf_item.specs.Speakers.{speaker_of};
+ghost use Rattle.ocsf_walk.specs.Speakers.{speaker_of};
 
 use crate::assemble::{Lists, list_or_none};
-use crate::class::class_parts;
+use crate::class::{ClassParts, class_parts};
 use crate::faults::with_rest;
-use crate::given::given_by;
 use crate::join::{Joined, join_all};
-use crate::names::ext_of;
 use crate::own::{Own, own_of};
-use crate::speakers::Speaker;
 use ocsf_bundle::{Cell, Shows};
 use ocsf_merge::Spoken;
 use ocsf_rules::Category;
 use ocsf_schema::Attr;
 use ocsf_tree::{Fault, Key, Row, Text};
+use ocsf_walk::{Speaker, ext_of, given_by};
 use std::alloc::{AllocError, Global};
 
 /// The parts of an item.
@@ -39,6 +38,102 @@ pub(crate) struct Parts {
     pub reads: Row<Cell>,
     /// The least fault of the item, but for its chain and its layers.
     pub least: Option<Fault>,
+}
+
+/// What an item has as a whole.
+#[derive(Drop)]
+struct Whole {
+    own: Own,
+    class: ClassParts,
+    at_least_one: Row<Text>,
+    just_one: Row<Text>,
+}
+
+/// What the item whose files and layers these are has as a whole. The cells tried for its category
+/// are read, and the least fault is that of its activities and its category.
+fn whole_of<B: Shows>(
+    alloc: Global,
+    bundle: &B,
+    key: &Key,
+    files: &[Speaker<'_>],
+    rows: &[Spoken],
+    reads: &mut Row<Cell>,
+    least: &mut Option<Fault>,
+) -> Result<Whole, AllocError>
+    requires files { map speaker_of files.now ≡ speakers (B.looks bundle.now) key.now }
+    requires rows { rows.now ≡ table_of (layers (B.looks bundle.now) key.now) }
+    ensures caption { IfOk result (λ whole. whole.own.caption ≡ caption (B.looks bundle.now) key.now) }
+    ensures description { IfOk result (λ whole. whole.own.description ≡ description (B.looks bundle.now) key.now) }
+    ensures hidden { IfOk result (λ whole. whole.own.hidden ≡ is_hidden (B.looks bundle.now) key.now) }
+    ensures category { IfOk result (λ whole. whole.class.category ≡ category (B.looks bundle.now) key.now) }
+    ensures number { IfOk result (λ whole. whole.class.number ≡ class_number (B.looks bundle.now) key.now) }
+    ensures numbered { activity_faults (B.looks bundle.now) key.now ≡ []
+        → IfOk result (λ whole. whole.class.numbered ≡ numbered (B.looks bundle.now) key.now) }
+    ensures least { OnOk result (least.new
+        ≡ least_from (least_from None (activity_faults (B.looks bundle.now) key.now)) (category_fault (B.looks bundle.now) key.now)) }
+    ensures category_range { IfOk result (λ whole. IfSome whole.class.category IsCategoryInRange) }
+    ensures range { IfOk result (λ whole. IfSome whole.class.numbered IsNumberedInRange) }
+    ensures at_least_one { IfOk result (λ whole. whole.at_least_one ≡ at_least_one (B.looks bundle.now) key.now) }
+    ensures just_one { IfOk result (λ whole. whole.just_one ≡ just_one (B.looks bundle.now) key.now) }
+    ensures reads { OnOk result (reads.new ≡ reads.old ++ category_reads (B.looks bundle.now) key.now) }
+{
+    let own = own_of(alloc, bundle, key)?;
+    let given = given_by(files)?;
+    let mut class = class_parts(alloc, bundle, key, &own, given.category, rows, reads)?;
+    let met = class.least.take();
+    *least = met;
+    Ok(Whole {
+        own,
+        class,
+        at_least_one: list_or_none(alloc, given.at_least_one),
+        just_one: list_or_none(alloc, given.just_one),
+    })
+}
+
+/// The attributes of these rows, with the cells read after those, and the least fault with those of the
+/// attributes, of the constraints and of too many attributes.
+fn joined_of<B: Shows>(
+    alloc: Global,
+    bundle: &B,
+    key: &Key,
+    rows: &[Spoken],
+    whole: &Whole,
+    reads: Row<Cell>,
+    least: Option<Fault>,
+) -> Result<Joined, AllocError>
+    requires range { IfSome whole.now.class.numbered IsNumberedInRange }
+    requires by_name { IsByName (λ row. row.attr.name) rows.now }
+    ensures attrs { IfOk result (λ made. made.attrs
+        ≡ map (λ s. attr_of (B.looks bundle.now) (ext_of key.now.name) (computed whole.now.class.numbered s.attr.name) s) rows.now) }
+    ensures reads { IfOk result (λ made. made.reads
+        ≡ reads ++ flat_map (attribute_reads (B.looks bundle.now) (ext_of key.now.name)) rows.now) }
+    ensures least { IfOk result (λ made. made.least
+        ≡ least_from (least_from (least_from (least_from least (flat_map (attribute_fault (B.looks bundle.now) key.now) rows.now))
+        (flat_map (absent_fault key.now rows.now) whole.now.at_least_one))
+        (flat_map (absent_fault key.now rows.now) whole.now.just_one)) (size_fault key.now rows.now)) }
+{
+    let attrs = Row::with_capacity(alloc, rows.len())?;
+    let mut joined = Joined {
+        attrs,
+        reads,
+        least,
+    };
+    let ext = ext_of(key.name.as_str());
+    join_all(
+        alloc,
+        bundle,
+        key,
+        ext,
+        rows,
+        &whole.class.numbered,
+        &mut joined,
+    )?;
+    let some = whole.at_least_one.as_slice();
+    let one = whole.just_one.as_slice();
+    let before = joined.least.take();
+    let after = with_rest(before, key, rows, some, one)?;
+    joined.least = after;
+    Ok(joined)
 }
 
 /// The parts of the item whose files and layers these are.
@@ -68,32 +163,16 @@ pub(crate) fn item_parts<B: Shows>(
     ensures least { IfOk result (λ parts. parts.least ≡ least_fault (own_faults (B.looks bundle.now) key.now)) }
     ensures range { IfOk result (λ parts. IfSome parts.category IsCategoryInRange) }
 {
-    let own = own_of(alloc, bundle, key)?;
-    let given = given_by(files)?;
     let mut reads = reads;
-    let class = class_parts(alloc, bundle, key, &own, given.category, rows, &mut reads)?;
-    let at_least_one = list_or_none(alloc, given.at_least_one);
-    let just_one = list_or_none(alloc, given.just_one);
-    let attrs = Row::with_capacity(alloc, rows.len())?;
-    let mut joined = Joined {
-        attrs,
-        reads,
-        least: class.least,
-    };
-    let ext = ext_of(key.name.as_str());
-    join_all(alloc, bundle, key, ext, rows, &class.numbered, &mut joined)?;
-    let Joined {
-        attrs,
-        reads,
-        least,
-    } = joined;
-    let least = with_rest(
-        least,
-        key,
-        rows,
-        at_least_one.as_slice(),
-        just_one.as_slice(),
-    )?;
+    let mut least = None;
+    let whole = whole_of(alloc, bundle, key, files, rows, &mut reads, &mut least)?;
+    let joined = joined_of(alloc, bundle, key, rows, &whole, reads, least)?;
+    let Whole {
+        own,
+        class,
+        at_least_one,
+        just_one,
+    } = whole;
     let lists = Lists {
         profiles,
         at_least_one,
@@ -104,8 +183,8 @@ pub(crate) fn item_parts<B: Shows>(
         category: class.category,
         number: class.number,
         lists,
-        attrs,
-        reads,
-        least,
+        attrs: joined.attrs,
+        reads: joined.reads,
+        least: joined.least,
     })
 }

@@ -4,7 +4,7 @@ use Rattle.ocsf_tree.specs.LeastFault.{least_fault}
 use Rattle.ocsf_merge.specs.Table.{table_of}
 use Rattle.ocsf_rules.specs.Chain.{speakers, speakers_of, layers_of}
 use Rattle.ocsf_rules.specs.ItemFaults.{speaker_faults}
-use Rattle.ocsf_item.specs.Speakers.{speaker_of}
+use Rattle.ocsf_walk.specs.Speakers.{speaker_of}
 use Rattle.ocsf_item.proofs.Leasts.{layers_next}
 use Rattle.ocsf_item.proofs.compile.sound_layers.Goals as goal
 

@@ -1,0 +1,12 @@
+use Rattle.std.proofs.Common.{take}
+use Rattle.std.specs.Prelude.{flat_map}
+use Rattle.ocsf_rules.specs.Chain.{listed_layer}
+use Rattle.ocsf_rules.specs.ItemFaults.{listed_faults}
+use Rattle.ocsf_rules.specs.Reads.{listed_reads}
+use Rattle.ocsf_walk.specs.Walk.{Hears}
+use Rattle.ocsf_walk.proofs.walk.hear_profiles.Given as goal
+
+abbrev pub invariant-loop-name : goal.invariant-loop-name
+invariant-loop-name g l =
+    let b = g.B.Shows.looks l.bundle in
+    Hears l.fn.walk l.walk (flat_map (listed_layer b l.ext) (take l.name-index l.names)) (flat_map (listed_reads b l.ext) (take l.name-index l.names)) (flat_map (listed_faults b l.by l.ext) (take l.name-index l.names))
