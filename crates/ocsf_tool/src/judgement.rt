@@ -1,5 +1,5 @@
 // A line is judged.
-ghost use Rattle.std.specs.Prelude.{◌≡◌, Err, All, IfOk};
+ghost use Rattle.std.specs.Prelude.{◌≡◌, ◌<◌, ◌≤◌, true, false, length, Err, All, IfOk};
 ghost use Rattle.ocsf_tree.specs.Valid.{IsValid};
 ghost use Rattle.ocsf_bundle.specs.Edits.{IsValidChange};
 ghost use Rattle.ocsf_rules.specs.Judgement.{last_revision};
@@ -130,13 +130,21 @@ fn judge_text(alloc: Global, now: &Compilation, line: &[u8]) -> Result<Outcome, 
     }
 }
 
+/// Whether the line has more bytes.
+fn is_longer(line: &[u8], most: usize) -> bool
+    ensures longer { result ≡ true → most < length line.now }
+    ensures no_longer { result ≡ false → length line.now ≤ most }
+{
+    line.len() > most
+}
+
 /// Judges a line. What stands now stays as it is.
 pub fn judge(alloc: Global, now: &Compilation, line: &[u8]) -> Result<Outcome, AllocError>
     ensures judgement { IfOk result (λ outcome. IsJudgement (record { bundle = now.now.bundle; revision = now.now.revision })
         line.now (outcome_of outcome)) }
     ensures next { IfOk result (NumbersNext now.now.revision) }
 {
-    if line.len() > MOST_EDIT {
+    if is_longer(line, MOST_EDIT) {
         let name = Text::of(alloc, "edit")?;
         let fault = line_fault_of(alloc, Code::Limit, name)?;
         return Ok(Outcome::Refused(fault));
