@@ -3,7 +3,7 @@ ghost use Rattle.std.specs.Prelude.{◌≡◌, IfOk, []};
 ghost use Rattle.ocsf_merge.specs.Layers.{layer_of, given};
 ghost use Rattle.ocsf_merge.specs.Fold.{over, nothing, row_of, mark_after, type_from_after, group_after, requirement_after};
 
-use crate::later::{both_later, later};
+use crate::fields::{both_later, later};
 use crate::members::merged_members;
 use crate::spoken::Spoken;
 use ocsf_raw::{Mark, ProfileFile, RawAttr};
