@@ -49,12 +49,7 @@ fn type_over(layer: &TypeEntry, old: &TypeEntry) -> Result<TypeEntry, AllocError
         &layer.description,
         &old.description,
     )?;
-    let (parent, pattern) = both_later(
-        &layer.parent,
-        &old.parent,
-        &layer.pattern,
-        &old.pattern,
-    )?;
+    let (parent, pattern) = both_later(&layer.parent, &old.parent, &layer.pattern, &old.pattern)?;
     let name = old.name.copy()?;
     let values = later(&layer.values, &old.values)?;
     Ok(TypeEntry {

@@ -136,8 +136,8 @@ module _ (bundle : Stored) (sound : IsFaultless bundle) where
       let mine : has_number b n k ≡ true = ap (λ o. option_map_or (λ m. m == n) o false) has ∙ eq-eqb n n refl in
       find_mapped (item b) (λ i. is_number n (number_of i)) keys
       ∙ ap (option_map (item b)) (
-        same_find (λ j. is_number n (number_of (item b j))) (has_number b n) (λ j. ap (is_number n) (shown_number b j) ∙ same_test n (class_number b j)) keys
-        ∙ first_found b n keys k ordered free there mine)
+      same_find (λ j. is_number n (number_of (item b j))) (has_number b n) (λ j. ap (is_number n) (shown_number b j) ∙ same_test n (class_number b j)) keys
+      ∙ first_found b n keys k ordered free there mine)
 
   abbrev IsFound : Key → Option ℕ → Type 0
   IsFound k number = IfSome number (λ n. class_at n (compilation bundle).pieces ≡ Some (item b k))

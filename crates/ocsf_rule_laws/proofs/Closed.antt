@@ -127,8 +127,8 @@ bases_lead : (types : List TypeEntry) → All (HasKind types) base_types
 bases_lead types =
     let P = HasKind types in
     let json = All-cons P (codes "json_t") (codes "long_t" ∷ codes "string_t" ∷ []) (base_leads types (codes "json_t") _ refl)
-        (All-cons P (codes "long_t") (codes "string_t" ∷ []) (base_leads types (codes "long_t") _ refl)
-        (All-cons P (codes "string_t") [] (base_leads types (codes "string_t") _ refl) (All-nil P))) in
+    (All-cons P (codes "long_t") (codes "string_t" ∷ []) (base_leads types (codes "long_t") _ refl)
+    (All-cons P (codes "string_t") [] (base_leads types (codes "string_t") _ refl) (All-nil P))) in
     All-cons P (codes "boolean_t") (codes "float_t" ∷ codes "integer_t" ∷ codes "json_t" ∷ codes "long_t" ∷ codes "string_t" ∷ []) (base_leads types (codes "boolean_t") _ refl)
     (All-cons P (codes "float_t") (codes "integer_t" ∷ codes "json_t" ∷ codes "long_t" ∷ codes "string_t" ∷ []) (base_leads types (codes "float_t") _ refl)
     (All-cons P (codes "integer_t") (codes "json_t" ∷ codes "long_t" ∷ codes "string_t" ∷ []) (base_leads types (codes "integer_t") _ refl) json))
@@ -265,7 +265,7 @@ module _ (bundle : Stored) (sound : IsFaultless bundle) where
   target_there : (ext : List ℕ) (t : TypeSaid) → IsThere schema (unwrap_or (target_named b ext t) target.Anything)
   target_there ext t =
       elim (is_data_type b t.name) as (λ (c : Bool). is_data_type b t.name ≡ c
-          → IsThere schema (unwrap_or (if c then Some (target.Simple t.name) else option_or (option_map target.Object (object_named b ext t)) (open_object t.name)) target.Anything)) [
+      → IsThere schema (unwrap_or (if c then Some (target.Simple t.name) else option_or (option_map target.Object (object_named b ext t)) (open_object t.name)) target.Anything)) [
         | true ↦ λ e. kind_there bundle sound t.name e
         | false ↦ λ e. object_or_open (object_named b ext t) t.name
             (λ n same. object_there bundle n (find_passes (shown_object b) (object_candidates ext t) n (sym (object_found b (object_candidates ext t)) ∙ same)))

@@ -139,7 +139,7 @@ module _ (types : List TypeEntry) (kinds : Kinds) (same : (q : List ℕ) → lis
   told name last limits (Some base) = refl
   told name last limits None =
       elim (is_there (kinds last)) as (λ (c : Bool). is_some (listed types last) ≡ c
-          → Some (if c then fault code.TypeCycle (type_subject name) [] else fault code.TypeUnknown (type_subject name) last) ≡ refused_kind name (if is_some (listed types last) then Err error.Cycle else Err (error.Unknown last))) [
+      → Some (if c then fault code.TypeCycle (type_subject name) [] else fault code.TypeUnknown (type_subject name) last) ≡ refused_kind name (if is_some (listed types last) then Err error.Cycle else Err (error.Unknown last))) [
         | true ↦ λ e. ap (λ c. refused_kind name (if c then Err error.Cycle else Err (error.Unknown last))) (sym e)
         | false ↦ λ e. ap (λ c. refused_kind name (if c then Err error.Cycle else Err (error.Unknown last))) (sym e)
       ] (somes last)
@@ -171,8 +171,7 @@ never types name last limits None =
 
 pub types_agree : TypesAgree
 types_agree bundle name =
-    let types = types_of bundle in
-    (
+    let types = types_of bundle in (
       faults_agree types (looks_in bundle).kinds (listed_type bundle) name,
       never types name (last_name (way 32 types name)) (limits_of types (way 32 types name)) (base_of (last_name (way 32 types name))),
     )
