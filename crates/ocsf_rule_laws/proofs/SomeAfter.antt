@@ -51,7 +51,7 @@ module _ (before : List ℕ → Option StoredFile) where
   by_file path None e = inr (absent path, (e, refl))
   by_file path (Some file) e = inl (subst (λ (o : Option StoredFile). IsSome o) (sym e) refl)
 
-  comes : (c : Change) → IsValidChange c → Comes before c
+  pub comes : (c : Change) → IsValidChange c → Comes before c
   comes (change.Put path tree) v = by_form path tree v (form_of path) refl
   comes (change.Remove path) v = by_file path (before path) refl
   comes (change.Enable name) v = inl tt

@@ -1,12 +1,14 @@
 -- What holds of whole outputs: the statements of the laws in src/laws.rt.
-use Rattle.std.specs.Prelude.{◌≡◌, ℕ, List, [], ◌∷◌, Bool, ⊤}
+use Rattle.std.specs.Prelude.{◌≡◌, ℕ, List, [], ◌∷◌, Bool, ⊤, Result}
+use Rattle.ocsf_edge.specs.Folder.{IsListing}
 use Rattle.ocsf_edge.specs.declared.records.KeptFile.{KeptFile}
 use Rattle.ocsf_lines.specs.Lines.{lines_of}
+use Rattle.ocsf_tree.specs.declared.fault.Fault.{Fault}
 use Rattle.ocsf_bundle.specs.declared.stored.StoredFile.{StoredFile}
 use Rattle.ocsf_bundle.specs.Stored.{Stored}
 use Rattle.ocsf_rules.specs.Verdict.{types_of, AreDecided}
 use Rattle.ocsf_tool.specs.Edits.{Edited, no_edits, EditStep, EditsOutput}
-use Rattle.ocsf_tool.specs.Folders.{all_enabled, CompileOutput}
+use Rattle.ocsf_tool.specs.Folders.{all_enabled, IsCompiled, CompileOutput}
 use Rattle.ocsf_tool.specs.Laws.{LeadsTo, AreFilesOf}
 
 -- wherever a run over these lines may come, the bundle that a line leads to has patterns that are good or bad
@@ -26,3 +28,7 @@ abbrev pub CompileHasOneOutput : Type 0
 CompileHasOneOutput = (dir : List ℕ) (lying : List KeptFile) (one other : List ℕ) (is_refused was_refused : Bool)
     → ((files : List StoredFile) → AreFilesOf dir lying files → AreDecided (types_of (all_enabled files)))
     → CompileOutput dir lying one is_refused → CompileOutput dir lying other was_refused → (one ≡ other) × (is_refused ≡ was_refused)
+
+-- whatever a folder lists, it comes to a printed schema or to a fault
+abbrev pub HasSomeSchema : Type 0
+HasSomeSchema = (dir : List ℕ) (lying : List KeptFile) (listed : List (List ℕ)) → IsListing dir lying listed → (made : Result (List ℕ) Fault) × IsCompiled dir lying made

@@ -1,5 +1,5 @@
 // What holds of every whole output. The functions do nothing: each contract is a law.
-ghost use Rattle.ocsf_run_laws.specs.RunLaws.{HasOneOutput, CompileHasOneOutput};
+ghost use Rattle.ocsf_run_laws.specs.RunLaws.{HasOneOutput, CompileHasOneOutput, HasSomeSchema};
 
 /// Of all that `edits` may write over the same bytes to their end, it comes to one text, and a line of them is refused or none
 /// is, where each pattern of the bundles that lines lead to is one that `regex` reads and that doesn't nest too deep, or one that
@@ -12,4 +12,9 @@ pub fn edits_has_one_output()
 /// of its files is such a one.
 pub fn compile_has_one_output()
     ensures { CompileHasOneOutput }
+{}
+
+/// Whatever a folder lists, it comes to a printed schema or to a fault.
+pub fn a_folder_comes_to_something()
+    ensures { HasSomeSchema }
 {}
