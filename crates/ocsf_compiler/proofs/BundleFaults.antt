@@ -83,10 +83,10 @@ pub carried : {A E : Type 0} (P Q : E → Type 0) → ((e : E) → P e → Q e) 
 carried P Q f (Ok x) h = tt
 carried P Q f (Err e) h = f e h
 
--- want of memory says nothing of the least
-pub wanting : {A : Type 0} (least : Option Fault) (r : Result A CompileError) → IsErrAnd r (λ made. made ≡ error.Memory) → IfErr r (IsLeast least)
-wanting least (Ok x) h = absurd h
-wanting least (Err e) h = subst (IsLeast least) (sym h) tt
+-- an error that is passed on keeps what is known of it
+pub passed_on : {A E : Type 0} (P : E → Type 0) (r : Result A E) (e : E) → IsErrAnd r (λ made. made ≡ e) → P e → IfErr r P
+passed_on P (Ok x) e same h = absurd same
+passed_on P (Err made) e same h = subst P (sym same) h
 
 same_least : (least other : Option Fault) → other ≡ least → (e : CompileError) → IsLeast least e → IsLeast other e
 same_least least other same (error.Fault f) is = same ∙ is

@@ -7,15 +7,15 @@ use Rattle.ocsf_rules.specs.Compilation.{compilation}
 use Rattle.ocsf_rules.specs.PrintedSchema.{items}
 use Rattle.ocsf_rules.specs.Verdict.{bundle_fault}
 use Rattle.ocsf_compiler.specs.Building.{IsLeast, fault_in}
-use Rattle.ocsf_compiler.proofs.BundleFaults.{of_schema, items_least, least_of_files, least_of_items, by_key, whole, of_compilation, carried, least_of}
+use Rattle.ocsf_compiler.proofs.BundleFaults.{of_schema, items_least, least_of_files, least_of_items, by_key, whole, of_compilation, carried, passed_on, least_of}
 use Rattle.ocsf_compiler.proofs.compiling.schema_of.Goals as goal
 
 pub returns-in_err-sound_files-clause-fault : goal.returns-in_err-sound_files-clause-fault
 returns-in_err-sound_files-clause-fault g c =
     let bundle = c.args.bundle.now in
     let own = own_fault bundle.files bundle.enabled in
-    let least : IfErr c.from_residual-in_err-sound_files.result (IsLeast own) = search rules in
-    carried (IsLeast own) (IsLeast (bundle_fault bundle)) (least_of_files bundle) c.from_residual-in_err-sound_files.result least
+    let least : IfErr c.from_residual.result (IsLeast own) = search rules in
+    carried (IsLeast own) (IsLeast (bundle_fault bundle)) (least_of_files bundle) c.from_residual.result least
 
 pub returns-in_err-pieces-clause-fault : goal.returns-in_err-pieces-clause-fault
 returns-in_err-pieces-clause-fault g c =
@@ -39,7 +39,8 @@ returns-in_err-sound_schema-clause-fault g c =
     c.in_ok-schema.ensures ∙ c.in_ok-parts.ensures.parts ∙ whole bundle c.in_ok-pieces.pieces c.in_ok-pieces.ensures.items in
     let copied : c.as_slice.result.now ≡ c.in_ok-pieces.pieces = search rules in
     let here = fault_in c.in_ok-schema.schema c.as_slice.result.now in
-    let least : IfErr c.from_residual-in_err-sound_schema.result (IsLeast here) = search rules in
+    let least : IfErr c.from_residual-in_err-sound_schema.result (IsLeast here) =
+    passed_on (IsLeast here) c.from_residual-in_err-sound_schema.result _ c.from_residual-in_err-sound_schema.ensures.1 c.in_err-sound_schema.ensures.fault in
     let same : bundle_fault bundle ≡ here =
     of_schema bundle none c.in_ok-pieces.ensures.sound
     ∙ sym (of_compilation bundle c.in_ok-schema.schema c.as_slice.result.now is (copied ∙ c.in_ok-pieces.ensures.items)) in
