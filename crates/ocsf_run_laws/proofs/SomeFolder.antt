@@ -1,5 +1,5 @@
 -- A folder comes to a schema or to a fault, whatever it lists.
-use Rattle.std.proofs.Common.{◌≡◌, ◌≢◌, ℕ, List, [], ◌∷◌, ◌++◌, length, map, All, Option, Some, None, Result, Ok, Err, ◌⊎◌, inl, inr, refl, ap, subst}
+use Rattle.std.proofs.Common.{◌≡◌, ◌≢◌, ℕ, List, [], ◌∷◌, ◌++◌, length, map, All, Option, Some, None, Result, Ok, Err, ◌⊎◌, inl, inr, refl, sym, ap, subst}
 use Rattle.std.specs.Prelude.{filter, IfOk, ⊤, codes}
 use Rattle.std.specs.Option.{option_map}
 use Rattle.std.proofs.lemmas.Bool.{cases_lt}
@@ -102,7 +102,7 @@ module _ (dir : List ℕ) (lying : List KeptFile) where
   Come paths = ((fault : Fault) × IsFirstFileFault dir lying paths fault) ⊎ ((files : List StoredFile) × AreFilesAt dir lying paths files)
 
   file_at : (path : List ℕ) (file : StoredFile) → IsFile path (body_at dir path lying) (Ok file) → file.path ≡ path → IsOf file
-  file_at path file is named = subst (λ (q : List ℕ). IsFile q (body_at dir q lying) (Ok file)) (λ i. named (~ i)) is
+  file_at path file is named = subst (λ (q : List ℕ). IsFile q (body_at dir q lying) (Ok file)) (sym named) is
 
   one_more : (path : List ℕ) (paths : List (List ℕ)) (made : Made) → IsFile path (body_at dir path lying) made → IsNamed path made → Come paths → Come (path ∷ paths)
   one_more path paths (Err fault) is named rest = inl (
