@@ -30,11 +30,21 @@ use std::alloc::{AllocError, Global};
 use std::marker::Model;
 
 /// The files from which everything is compiled, and the names of the enabled extensions.
-#[derive(Debug, Drop)]
+#[derive(Debug)]
 pub struct Bundle {
     files: Row<Shared<StoredFile>>,
     enabled: Row<Text>,
     index: Index,
+}
+
+impl Drop for Bundle {
+    fn drop(self) {
+        let Bundle {
+            files: _,
+            enabled: _,
+            index: _,
+        } = self;
+    }
 }
 
 impl Model for Bundle {

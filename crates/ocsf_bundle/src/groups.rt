@@ -11,10 +11,16 @@ use std::alloc::{AllocError, Global};
 use std::collections::BTreeMap;
 
 /// The files that give one key.
-#[derive(Debug, Drop)]
+#[derive(Debug)]
 pub struct Group {
     pub name: Text,
     pub files: Row<ActiveFile>,
+}
+
+impl Drop for Group {
+    fn drop(self) {
+        let Group { name: _, files: _ } = self;
+    }
 }
 
 impl Named for Group {

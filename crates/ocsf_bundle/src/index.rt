@@ -14,14 +14,23 @@ use ocsf_tree::{Key, Row, Side, TryClone};
 use std::alloc::{AllocError, Global};
 
 /// The groups of classes and of objects.
-#[derive(Debug, Drop)]
+#[derive(Debug)]
 pub struct Sides {
     pub classes: Row<Group>,
     pub objects: Row<Group>,
 }
 
+impl Drop for Sides {
+    fn drop(self) {
+        let Sides {
+            classes: _,
+            objects: _,
+        } = self;
+    }
+}
+
 /// The files that count, by what is asked of them.
-#[derive(Debug, Drop)]
+#[derive(Debug)]
 pub struct Index {
     /// The item files by key.
     pub items: Sides,
@@ -39,6 +48,21 @@ pub struct Index {
     pub categories: Row<ActiveFile>,
     /// The full keys of the items, in order.
     pub keys: Row<Key>,
+}
+
+impl Drop for Index {
+    fn drop(self) {
+        let Index {
+            items: _,
+            patches: _,
+            profiles: _,
+            includes: _,
+            extensions: _,
+            dictionaries: _,
+            categories: _,
+            keys: _,
+        } = self;
+    }
 }
 
 fn is_dictionary(file: &ActiveFile) -> bool

@@ -9,11 +9,21 @@ use ocsf_tree::{Named, Row, Shared, Text, Tree, print};
 use std::alloc::Global;
 
 /// A file of a bundle: its path, its compact text, and what the text says.
-#[derive(Debug, Drop)]
+#[derive(Debug)]
 pub struct StoredFile {
     pub path: Text,
     pub text: Row<u8>,
     pub raw: RawFile,
+}
+
+impl Drop for StoredFile {
+    fn drop(self) {
+        let StoredFile {
+            path: _,
+            text: _,
+            raw: _,
+        } = self;
+    }
 }
 
 impl StoredFile {
@@ -46,8 +56,14 @@ impl Named for StoredFile {
 }
 
 /// A file that counts: of core, or of an enabled extension, whose file it comes with.
-#[derive(Debug, Drop)]
+#[derive(Debug)]
 pub struct ActiveFile {
     pub file: Shared<StoredFile>,
     pub ext: Option<Shared<StoredFile>>,
+}
+
+impl Drop for ActiveFile {
+    fn drop(self) {
+        let ActiveFile { file: _, ext: _ } = self;
+    }
 }

@@ -3,10 +3,16 @@ use ocsf_tree::{Text, TryClone};
 use std::alloc::AllocError;
 
 /// A category as it is written, and the extension of the file that writes it, empty for core.
-#[derive(Debug, Drop)]
+#[derive(Debug)]
 pub struct Written {
     pub name: Text,
     pub ext: Text,
+}
+
+impl Drop for Written {
+    fn drop(self) {
+        let Written { name: _, ext: _ } = self;
+    }
 }
 
 /// A category.

@@ -3,7 +3,7 @@ use crate::Category;
 use ocsf_tree::{EnumMember, Row, Text};
 
 /// What the enumerations of a class are computed from.
-#[derive(Debug, Drop)]
+#[derive(Debug)]
 pub struct Numbered {
     /// The number of the class.
     pub number: u64,
@@ -12,4 +12,15 @@ pub struct Numbered {
     pub category: Category,
     /// The members of the enumeration of `activity_id`.
     pub activities: Row<EnumMember>,
+}
+
+impl Drop for Numbered {
+    fn drop(self) {
+        let Numbered {
+            number: _,
+            caption: _,
+            category: _,
+            activities: _,
+        } = self;
+    }
 }

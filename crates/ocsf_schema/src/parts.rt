@@ -3,7 +3,6 @@ use crate::{Kind, Piece};
 use ocsf_tree::{Row, Shared, Text, Tree};
 
 /// What a schema is made of.
-#[derive(Drop)]
 pub struct SchemaParts {
     /// The items, strictly by full key.
     pub pieces: Row<Shared<Piece>>,
@@ -20,4 +19,19 @@ pub struct SchemaParts {
     /// The listed types by name, as printed.
     pub types: Tree,
     pub version: Text,
+}
+
+impl Drop for SchemaParts {
+    fn drop(self) {
+        let SchemaParts {
+            pieces: _,
+            kinds: _,
+            categories: _,
+            dictionary: _,
+            extensions: _,
+            profiles: _,
+            types: _,
+            version: _,
+        } = self;
+    }
 }

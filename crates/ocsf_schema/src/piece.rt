@@ -11,10 +11,15 @@ use std::marker::Model;
 use std::sync::ledger::Ledger;
 
 /// A compiled item with its fragment of the printed schema; contracts see the item.
-#[derive(Drop)]
 pub struct Piece {
     item: Item,
     text: Shared<Row<u8>>,
+}
+
+impl Drop for Piece {
+    fn drop(self) {
+        let Piece { item: _, text: _ } = self;
+    }
 }
 
 impl Model for Piece {

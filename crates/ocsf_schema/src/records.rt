@@ -45,7 +45,7 @@ impl Base {
 }
 
 /// What one type on the way to a base asks of a value.
-#[derive(Debug, Drop)]
+#[derive(Debug)]
 pub struct Limit {
     /// The type that asks it.
     pub type_name: Text,
@@ -61,12 +61,35 @@ pub struct Limit {
     pub values: Option<Row<Tree>>,
 }
 
+impl Drop for Limit {
+    fn drop(self) {
+        let Limit {
+            type_name: _,
+            max_len: _,
+            range: _,
+            pattern: _,
+            instant: _,
+            values: _,
+        } = self;
+    }
+}
+
 /// A data type: its base, and the limits on the way to it, its own first.
-#[derive(Debug, Drop)]
+#[derive(Debug)]
 pub struct Kind {
     pub name: Text,
     pub base: Base,
     pub limits: Row<Limit>,
+}
+
+impl Drop for Kind {
+    fn drop(self) {
+        let Kind {
+            name: _,
+            base: _,
+            limits: _,
+        } = self;
+    }
 }
 
 impl Named for Kind {
@@ -89,7 +112,7 @@ pub enum Target {
 }
 
 /// An attribute of a compiled item.
-#[derive(Debug, Drop)]
+#[derive(Debug)]
 pub struct Attr {
     pub name: Text,
     pub caption: Option<Text>,
@@ -106,6 +129,23 @@ pub struct Attr {
     pub members: Row<EnumMember>,
 }
 
+impl Drop for Attr {
+    fn drop(self) {
+        let Attr {
+            name: _,
+            caption: _,
+            description: _,
+            target: _,
+            is_array: _,
+            requirement: _,
+            profile: _,
+            group: _,
+            sibling: _,
+            members: _,
+        } = self;
+    }
+}
+
 impl Named for Attr {
     ghost name_of = { λ attr. attr.name };
 
@@ -115,7 +155,7 @@ impl Named for Attr {
 }
 
 /// A compiled class or object.
-#[derive(Debug, Drop)]
+#[derive(Debug)]
 pub struct Item {
     pub key: Key,
     pub caption: Option<Text>,
@@ -136,4 +176,23 @@ pub struct Item {
     pub just_one: Row<Text>,
     /// Its attributes, strictly by name.
     pub attrs: Row<Attr>,
+}
+
+impl Drop for Item {
+    fn drop(self) {
+        let Item {
+            key: _,
+            caption: _,
+            description: _,
+            parent: _,
+            hidden: _,
+            category: _,
+            category_uid: _,
+            class_uid: _,
+            profiles: _,
+            at_least_one: _,
+            just_one: _,
+            attrs: _,
+        } = self;
+    }
 }

@@ -19,12 +19,22 @@ use std::collections::BTreeMap;
 use std::marker::Model;
 
 /// A compiled schema with its print; contracts see its parts.
-#[derive(Drop)]
 pub struct Schema {
     parts: SchemaParts,
     text: Rope,
     printed: usize,
     classes: BTreeMap<u64, Shared<Piece>>,
+}
+
+impl Drop for Schema {
+    fn drop(self) {
+        let Schema {
+            parts: _,
+            text: _,
+            printed: _,
+            classes: _,
+        } = self;
+    }
 }
 
 impl Model for Schema {

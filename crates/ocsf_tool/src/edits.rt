@@ -12,10 +12,15 @@ use ocsf_lines::{LineMachine, Reply};
 use std::alloc::{AllocError, Global};
 
 /// What was accepted so far.
-#[derive(Drop)]
 pub struct Edits {
     alloc: Global,
     now: Compilation,
+}
+
+impl Drop for Edits {
+    fn drop(self) {
+        let Edits { alloc: _, now: _ } = self;
+    }
 }
 
 impl Edits {

@@ -4,11 +4,21 @@ use crate::try_clone::TryClone;
 use std::alloc::AllocError;
 
 /// A member of an enumeration: the value as it is written, and what it means.
-#[derive(Debug, Drop)]
+#[derive(Debug)]
 pub struct EnumMember {
     pub key: Text,
     pub caption: Text,
     pub description: Option<Text>,
+}
+
+impl Drop for EnumMember {
+    fn drop(self) {
+        let EnumMember {
+            key: _,
+            caption: _,
+            description: _,
+        } = self;
+    }
 }
 
 /// Whether an event should have an attribute.

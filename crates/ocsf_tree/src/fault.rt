@@ -70,11 +70,21 @@ pub enum Code {
 }
 
 /// What is wrong, with what, and by which name. Of several faults the least by this order is told.
-#[derive(Debug, PartialEq, Eq, PartialOrd, Ord, Drop)]
+#[derive(Debug, PartialEq, Eq, PartialOrd, Ord)]
 pub struct Fault {
     pub code: Code,
     pub subject: Text,
     pub name: Text,
+}
+
+impl Drop for Fault {
+    fn drop(self) {
+        let Fault {
+            code: _,
+            subject: _,
+            name: _,
+        } = self;
+    }
 }
 
 impl Code {

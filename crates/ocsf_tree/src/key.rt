@@ -12,10 +12,16 @@ pub enum Side {
 
 /// The full key of a class or an object, printed `class:NAME` or `object:NAME`. Keys are ordered as
 /// these texts are by their bytes.
-#[derive(Debug, PartialEq, Eq, PartialOrd, Ord, Hash, Drop)]
+#[derive(Debug, PartialEq, Eq, PartialOrd, Ord, Hash)]
 pub struct Key {
     pub side: Side,
     pub name: Text,
+}
+
+impl Drop for Key {
+    fn drop(self) {
+        let Key { side: _, name: _ } = self;
+    }
 }
 
 impl Side {
