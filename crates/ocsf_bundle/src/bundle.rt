@@ -11,7 +11,7 @@ ghost use Rattle.ocsf_bundle.specs.BundleFaults.{own_fault};
 ghost use Rattle.ocsf_bundle.specs.FilesLook.{looks};
 ghost use Rattle.ocsf_bundle.specs.Listing.{listing};
 ghost use Rattle.ocsf_bundle.specs.Looks.{look};
-ghost use Rattle.ocsf_bundle.specs.Shown.{shown, IsShownOrdered};
+ghost use Rattle.ocsf_bundle.specs.Shown.{shown, IsShownOrdered, AreNumbersInRange};
 ghost use Rattle.ocsf_bundle.specs.declared.cells.Cell.{Cell};
 
 use crate::active::active_files;
@@ -194,6 +194,17 @@ impl Bundle {
         group_names(self.files.allocator(), self.index.profiles.as_slice())
     }
 
+    /// The part at position `k` of what the cell shows, and nothing where it shows no more than `k` parts. It takes
+    /// no memory.
+    pub fn look(&self, cell: &Cell, k: usize) -> Option<Part<'_>>
+        ensures part { option_map shown result
+            ≡ slice_get (look (looks self.now.files self.now.enabled) cell.now) k }
+        ensures ordered { IfSome result (λ part. IsShownOrdered (shown part)) }
+        ensures numbers { IfSome result (λ part. AreNumbersInRange (shown part)) }
+    {
+        found(&self.index, cell, k)
+    }
+
     /// The version of the schema, empty where no file gives it. It takes no memory.
     pub fn version(&self) -> &str
         ensures { result.now ≡ (listing self.now).version }
@@ -212,7 +223,7 @@ impl Shows for Bundle {
     ghost looks = { λ bundle. looks bundle.files bundle.enabled };
 
     fn look<'a>(&'a self, cell: &Cell, k: usize) -> Option<Part<'a>> {
-        found(&self.index, cell, k)
+        Bundle::look(self, cell, k)
     }
 
     fn most(&self) -> usize {

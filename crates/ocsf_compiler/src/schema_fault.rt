@@ -1,8 +1,8 @@
 // What is wrong with a schema as a whole.
-ghost use Rattle.std.specs.Prelude.{◌≡◌, IfOk, length, decimal, filter_map};
+ghost use Rattle.std.specs.Prelude.{◌≡◌, IfOk, length, decimal, filter_map, nat_lt};
 ghost use Rattle.ocsf_tree.specs.LeastFault.{least_fault};
 ghost use Rattle.ocsf_schema.specs.Schema.{schema_text};
-ghost use Rattle.ocsf_rules.specs.SchemaFaults.{comes_before};
+ghost use Rattle.ocsf_rules.specs.SchemaFaults.{comes_before, max_print};
 ghost use Rattle.ocsf_rules.specs.ItemFaults.{fault};
 ghost use Rattle.ocsf_compiler.specs.Building.{is_taken_in, clash_of, clash_in, large_fault, fault_in};
 
@@ -82,10 +82,20 @@ fn uid_clash(
     Ok(least)
 }
 
+/// Whether the print has more bytes than it may.
+fn is_too_long(schema: &Schema) -> bool
+    ensures { result ≡ nat_lt max_print (length (schema_text schema.now)) }
+{
+    match schema.printed_len() {
+        Some(bytes) => bytes > MOST_PRINTED,
+        None => true,
+    }
+}
+
 fn too_large(alloc: Global, schema: &Schema) -> Result<Option<Fault>, AllocError>
     ensures { IfOk result (λ made. made ≡ large_fault (length (schema_text schema.now))) }
 {
-    if schema.printed_len() <= MOST_PRINTED {
+    if !is_too_long(schema) {
         return Ok(None);
     }
     let subject = Text::of(alloc, "bundle")?;

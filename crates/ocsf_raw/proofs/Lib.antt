@@ -6,7 +6,6 @@ pub mod Givens
 pub mod LeastParts
 pub mod LeastTrees
 pub mod Leasts
-pub mod MembersByName
 pub mod Numbers
 pub mod Parts
 pub mod Refusals

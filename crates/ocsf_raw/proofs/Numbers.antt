@@ -1,5 +1,5 @@
 -- The numbers that a file says are in their ranges.
-use Rattle.std.proofs.Common.{◌≡◌, ℕ, ◌≤◌, List, [], ◌∷◌, Bool, Option, None, Some, arith}
+use Rattle.std.proofs.Common.{ℕ, ◌≤◌, List, [], ◌∷◌, Bool, Option, None, Some, arith}
 use Rattle.std.specs.Prelude.{All, IfSome, IsSomeAnd, codes}
 use Rattle.std.specs.List.{AllZip, filter}
 use Rattle.std.proofs.lemmas.List.Elements.{All-cons}

@@ -1,4 +1,5 @@
 pub mod Bases
+pub mod Count
 pub mod Print
 pub mod Schema
 pub mod Lookups

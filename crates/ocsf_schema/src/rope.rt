@@ -1,8 +1,9 @@
 // Bytes in pieces, some of which have other owners too.
-ghost use Rattle.std.specs.Prelude.{◌≡◌, ◌++◌, [], length, flat_map, IfOk, OnOk, OnErr};
+ghost use Rattle.std.specs.Prelude.{◌≡◌, ◌++◌, [], length, flat_map, OnOk, OnErr};
 ghost use Rattle.std.specs.Io.KnownBytes.{Appends};
 ghost use Rattle.ocsf_edge.specs.Faults.{HasCause};
 ghost use Rattle.ocsf_edge.specs.Sink.{AppendsPrefix};
+ghost use Rattle.ocsf_schema.specs.Count.{IsCount};
 
 use ocsf_edge::{Failed, Sink, write_all};
 use ocsf_tree::{Row, Shared};
@@ -26,18 +27,15 @@ impl Model for Rope {
     ghost view = { λ rope. flat_map (λ piece. piece) rope.pieces };
 }
 
-/// How many bytes the pieces have, where so many can be counted.
-fn len_of(pieces: &[Shared<Row<u8>>]) -> Result<usize, AllocError>
-    ensures { IfOk result (λ len. len ≡ length (flat_map (λ piece. piece) pieces.now)) }
+/// How many bytes the pieces have.
+fn len_of(pieces: &[Shared<Row<u8>>]) -> Option<usize>
+    ensures { IsCount (length (flat_map (λ piece. piece) pieces.now)) result }
 {
     let mut len = 0usize;
     for piece in pieces {
-        let Some(more) = len.checked_add(piece.get().len()) else {
-            return Err(AllocError);
-        };
-        len = more;
+        len = len.checked_add(piece.get().len())?;
     }
-    Ok(len)
+    Some(len)
 }
 
 fn write_pieces<K: Sink>(pieces: &[Shared<Row<u8>>], sink: &mut K) -> Result<(), Failed>
@@ -87,9 +85,10 @@ impl Rope {
         self.pieces.push(bytes)
     }
 
-    /// How many bytes there are, where so many can be counted.
-    pub fn len(&self) -> Result<usize, AllocError>
-        ensures { IfOk result (λ len. len ≡ length self.now) }
+    /// How many bytes there are, and nothing where their number has more than 64 bits: a piece may stand there
+    /// many times.
+    pub fn len(&self) -> Option<usize>
+        ensures { IsCount (length self.now) result }
     {
         len_of(self.pieces.as_slice())
     }

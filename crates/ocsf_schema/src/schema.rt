@@ -13,7 +13,7 @@ use crate::printing::schema_bytes;
 use crate::rope::Rope;
 use crate::{Attr, Item, Kind, Piece, SchemaParts};
 use ocsf_edge::{Failed, Sink};
-use ocsf_tree::{Key, Shared, find_by_name};
+use ocsf_tree::{Key, Shared, Tree, find_by_name};
 use std::alloc::{AllocError, Global};
 use std::collections::BTreeMap;
 use std::marker::Model;
@@ -22,7 +22,7 @@ use std::marker::Model;
 pub struct Schema {
     parts: SchemaParts,
     text: Rope,
-    printed: usize,
+    printed: Option<usize>,
     classes: BTreeMap<u64, Shared<Piece>>,
 }
 
@@ -52,20 +52,26 @@ impl Model for Schema {
     ghost use Rattle.std.specs.Ordering.{nat_cmp};
     ghost use Rattle.ocsf_tree.specs.ByName.{IsByName};
     ghost use Rattle.ocsf_tree.specs.Valid.{IsValid};
+    ghost use Rattle.ocsf_schema.specs.Count.{IsCount};
     ghost use Rattle.ocsf_schema.specs.Lookups.{IsByKey, class_at};
     ghost use Rattle.ocsf_schema.specs.Schema.{schema_text};
 
     ghost view = { λ schema. schema.parts };
 
     ghost invariant = { λ schema. (schema.text ≡ schema_text schema.parts)
-        × (schema.printed ≡ length (schema_text schema.parts))
+        × IsCount (length (schema_text schema.parts)) schema.printed
         × ((uid : ℕ) → get nat_cmp schema.classes uid ≡ class_at uid schema.parts.pieces)
         × IsByKey schema.parts.pieces
         × IsByName (λ kind. kind.name) schema.parts.kinds
-        × IsValid schema.parts.profiles };
+        × IsValid schema.parts.categories
+        × IsValid schema.parts.dictionary
+        × IsValid schema.parts.extensions
+        × IsValid schema.parts.profiles
+        × IsValid schema.parts.types };
 }
 
 impl Schema {
+    ghost use Rattle.ocsf_schema.specs.Count.{IsCount};
     ghost use Rattle.ocsf_schema.specs.Lookups.{IsByKey, item_at, class_at, IsInOrder};
     ghost use Rattle.ocsf_schema.specs.Schema.{schema_text};
 
@@ -82,7 +88,7 @@ impl Schema {
         ensures { IfOk result (λ schema. schema ≡ parts) }
     {
         let text = schema_bytes(alloc, &parts)?;
-        let printed = text.len()?;
+        let printed = text.len();
         let classes = classes_by_uid(alloc, parts.pieces.as_slice())?;
         Ok(Schema {
             parts,
@@ -133,9 +139,49 @@ impl Schema {
         self.parts.profiles.at(key).is_some()
     }
 
-    /// How many bytes the printed schema has.
-    pub fn printed_len(&self) -> usize
-        ensures { result ≡ length (schema_text self.now) }
+    /// What is printed of the categories, each by its key.
+    pub fn categories(&self) -> &Tree
+        ensures tree { result.now ≡ self.now.categories }
+        ensures valid { IsValid result.now }
+    {
+        &self.parts.categories
+    }
+
+    /// What is printed of the attributes of the dictionaries, each by its name.
+    pub fn dictionary(&self) -> &Tree
+        ensures tree { result.now ≡ self.now.dictionary }
+        ensures valid { IsValid result.now }
+    {
+        &self.parts.dictionary
+    }
+
+    /// What is printed of the extensions, each by its name.
+    pub fn extensions(&self) -> &Tree
+        ensures tree { result.now ≡ self.now.extensions }
+        ensures valid { IsValid result.now }
+    {
+        &self.parts.extensions
+    }
+
+    /// What is printed of the profiles, each by its key.
+    pub fn profiles(&self) -> &Tree
+        ensures tree { result.now ≡ self.now.profiles }
+        ensures valid { IsValid result.now }
+    {
+        &self.parts.profiles
+    }
+
+    /// What is printed of the data types, each by its name.
+    pub fn types(&self) -> &Tree
+        ensures tree { result.now ≡ self.now.types }
+        ensures valid { IsValid result.now }
+    {
+        &self.parts.types
+    }
+
+    /// How many bytes the printed schema has, and nothing where their number has more than 64 bits.
+    pub fn printed_len(&self) -> Option<usize>
+        ensures { IsCount (length (schema_text self.now)) result }
     {
         self.printed
     }

@@ -5,6 +5,7 @@ pub mod Joined
 pub mod Keys
 pub mod LeastFaults
 pub mod Leasts
+pub mod MembersByName
 pub mod NameLists
 pub mod Order
 pub mod Places
@@ -12,7 +13,6 @@ pub mod Pointers
 pub mod Readings
 pub mod RoundTrip
 pub mod Same
-pub mod Search
 pub mod TextsApart
 pub mod Valid
 pub mod Views

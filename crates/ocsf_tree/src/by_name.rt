@@ -10,6 +10,7 @@ use crate::attribute::EnumMember;
 use crate::row::Row;
 use crate::shared::Shared;
 use crate::text::Text;
+use crate::tree::Member;
 use crate::try_clone::TryClone;
 use std::alloc::{AllocError, Global};
 
@@ -27,6 +28,14 @@ impl Named for EnumMember {
 
     fn name(&self) -> &str {
         self.key.as_str()
+    }
+}
+
+impl Named for Member {
+    ghost name_of = { λ member. member.name };
+
+    fn name(&self) -> &str {
+        self.name.as_str()
     }
 }
 

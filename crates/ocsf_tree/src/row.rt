@@ -1,4 +1,5 @@
 // A list that contracts see as the list of its items.
+ghost use Rattle.std.specs.declared.alloc.Global.{Global};
 ghost use Rattle.std.specs.Prelude.{◌≡◌, ◌<◌, ◌≤◌, [], ◌∷◌, ◌++◌, IfOk, OnOk, OnErr, IsTrue, ◌↔◌};
 ghost use Rattle.std.specs.Prelude.{length, reverse, insert, remove, slice_get, slice_set};
 
@@ -54,8 +55,10 @@ impl<T> Row<T> {
         self.items
     }
 
-    /// The allocator with which the list was made. Contracts don't see it.
-    pub fn allocator(&self) -> Global {
+    /// The allocator with which the list was made, which is the one there is.
+    pub fn allocator(&self) -> Global
+        ensures { (other : Global) → result ≡ other }
+    {
         *self.items.allocator()
     }
 

@@ -1,4 +1,5 @@
 // A text, which is a shared string.
+ghost use Rattle.std.specs.declared.alloc.Global.{Global};
 ghost use Rattle.std.specs.Prelude.{◌≡◌, IfOk, string_bytes, [], IsTrue, ◌↔◌};
 
 use crate::shared::Shared;
@@ -42,8 +43,10 @@ impl Text {
         })
     }
 
-    /// The allocator with which the text was made. Contracts don't see it.
-    pub fn allocator(&self) -> Global {
+    /// The allocator with which the text was made, which is the one there is.
+    pub fn allocator(&self) -> Global
+        ensures { (other : Global) → result ≡ other }
+    {
         *self.inner.get().allocator()
     }
 

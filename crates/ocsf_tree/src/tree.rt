@@ -4,6 +4,7 @@ ghost use Rattle.std.specs.Option.{IfSome, option_copied};
 ghost use Rattle.ocsf_tree.specs.Lookup.{member_at, member_in};
 ghost use Rattle.ocsf_tree.specs.Valid.{IsValid, IsValidMembers};
 
+use crate::by_name::find_by_name;
 use crate::row::Row;
 use crate::text::Text;
 use crate::try_clone::TryClone;
@@ -79,9 +80,9 @@ fn find<'a>(members: &'a [Member], name: &str) -> Option<&'a Tree>
     requires { IsValidMembers members.now }
     ensures { option_copied result ≡ member_in name.now members.now }
 {
-    match members.binary_search_by(|member| member.name.as_str().cmp(&name)) {
-        Ok(index) => Some(&members[index].value),
-        Err(_) => None,
+    match find_by_name(members, name) {
+        Some(member) => Some(&member.value),
+        None => None,
     }
 }
 

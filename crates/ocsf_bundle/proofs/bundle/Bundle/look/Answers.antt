@@ -6,7 +6,7 @@ use Rattle.ocsf_bundle.specs.FilesLook.{looks}
 use Rattle.ocsf_bundle.proofs.Kept.{groups_by_name, asked_ordered}
 use Rattle.ocsf_bundle.proofs.Looked.{found-look}
 use Rattle.ocsf_bundle.specs.Parts.{found}
-use Rattle.ocsf_bundle.proofs.bundle.BundleShows.look.Goals as goal
+use Rattle.ocsf_bundle.proofs.bundle.Bundle.look.Goals as goal
 
 pub found-requires-clause-groups : goal.found-requires-clause-groups
 found-requires-clause-groups c =
