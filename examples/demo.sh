@@ -36,7 +36,7 @@ run_both() {
     echo "No proved program is at $program: \`make\` proves and builds it (docs/GATE.md says how long that takes)."
     echo "Here the sources are compiled without a proof, and run with a check at each step, which takes some minutes."
     echo
-    files=$(cd examples && find schema -name '*.json' | sed 's|.*|--data &=../../examples/&|')
+    files=$(cd examples && find -L schema -name '*.json' | sed 's|.*|--data &=../../examples/&|')
     # (the names of the example have no blanks)
     try compile $files -- compile schema < /dev/null &
     try edits -- edits < examples/story.edits

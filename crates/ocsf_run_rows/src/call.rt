@@ -1,6 +1,6 @@
 // What a row calls.
 use crate::commands::{push_cut_anywhere, push_edits, push_run};
-use crate::items::{push_item, push_length, push_picked};
+use crate::items::{push_item, push_item_reads, push_length, push_picked};
 use crate::lookups::push_found;
 use crate::schemas::push_schema;
 use ocsf_table::halves;
@@ -9,6 +9,7 @@ use std::alloc::{AllocError, Global};
 /// What a row calls, by its first word.
 enum Call {
     Item,
+    Reads,
     Length,
     Pick,
     Schema,
@@ -22,6 +23,7 @@ impl Call {
     fn named(word: &str) -> Option<Call> {
         match word {
             "item" => Some(Call::Item),
+            "reads" => Some(Call::Reads),
             "length" => Some(Call::Length),
             "pick" => Some(Call::Pick),
             "schema" => Some(Call::Schema),
@@ -49,6 +51,7 @@ fn push_answer(
 ) -> Result<(), AllocError> {
     match call {
         Call::Item => push_item(alloc, out, given, rest),
+        Call::Reads => push_item_reads(alloc, out, given, rest),
         Call::Length => push_length(alloc, out, given, rest),
         Call::Pick => push_picked(alloc, out, given, rest),
         Call::Schema => push_schema(alloc, out, rest),

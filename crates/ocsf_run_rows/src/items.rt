@@ -2,6 +2,7 @@
 ghost use Rattle.std.specs.Prelude.{◌≡◌};
 
 use crate::bundles::{bundle_of, push_fault, push_refused};
+use crate::reads::push_reads;
 use ocsf_bundle::Bundle;
 use ocsf_item::{BuildError, Built, build_item};
 use ocsf_raw::RawError;
@@ -38,10 +39,28 @@ fn built<L: Ledger>(
     build_item(alloc, bundle, key, &mut steps)
 }
 
-// The fragment of the item, or its least fault.
-fn push_made(out: &mut String, made: &Result<Built, BuildError>) -> Result<(), AllocError> {
+/// What a row wants of an item.
+#[derive(Clone, Copy, Drop)]
+enum Wanted {
+    Fragment,
+    Reads,
+}
+
+fn push_wanted(out: &mut String, built: &Built, wanted: Wanted) -> Result<(), AllocError> {
+    match wanted {
+        Wanted::Fragment => push_bytes(out, built.piece().get().text()),
+        Wanted::Reads => push_reads(out, built),
+    }
+}
+
+// What is wanted of the item, or its least fault.
+fn push_made(
+    out: &mut String,
+    made: &Result<Built, BuildError>,
+    wanted: Wanted,
+) -> Result<(), AllocError> {
     match made {
-        Ok(built) => push_bytes(out, built.piece().get().text()),
+        Ok(built) => push_wanted(out, built, wanted),
         Err(BuildError::Fault(fault)) => push_fault(out, fault),
         Err(BuildError::Memory) => Err(AllocError),
     }
@@ -52,8 +71,13 @@ fn push_built(
     out: &mut String,
     bundle: &Bundle,
     key: &Key,
+    wanted: Wanted,
 ) -> Result<(), AllocError> {
-    push_made(out, &built::<Brand>(alloc, Blank::new(1), bundle, key))
+    push_made(
+        out,
+        &built::<Brand>(alloc, Blank::new(1), bundle, key),
+        wanted,
+    )
 }
 
 // What is built for each of the keys, in a line.
@@ -62,10 +86,11 @@ fn push_each_built(
     out: &mut String,
     bundle: &Bundle,
     keys: &str,
+    wanted: Wanted,
 ) -> Result<(), AllocError> {
     for printed in keys.split(" | ") {
         let key = key_of(alloc, printed)?;
-        push_built(alloc, out, bundle, &key)?;
+        push_built(alloc, out, bundle, &key, wanted)?;
         out.push('\n')?;
     }
     Ok(())
@@ -76,9 +101,10 @@ fn push_over(
     out: &mut String,
     outcome: &Result<Bundle, RawError>,
     keys: &str,
+    wanted: Wanted,
 ) -> Result<(), AllocError> {
     match outcome {
-        Ok(bundle) => push_each_built(alloc, out, bundle, keys),
+        Ok(bundle) => push_each_built(alloc, out, bundle, keys, wanted),
         Err(error) => push_refused(out, error),
     }
 }
@@ -92,6 +118,18 @@ fn edit_text(alloc: Global, given: &str, changes: &str) -> Result<String, AllocE
     Ok(text)
 }
 
+fn push_after_given(
+    alloc: Global,
+    out: &mut String,
+    given: &str,
+    rest: &str,
+    wanted: Wanted,
+) -> Result<(), AllocError> {
+    let (changes, keys) = halves(rest, " | ");
+    let text = edit_text(alloc, given, changes)?;
+    push_over(alloc, out, &bundle_of(alloc, text.as_str()), keys, wanted)
+}
+
 /// Writes what is built for the row's keys, where the row's changes follow on those that are given.
 pub fn push_item(
     alloc: Global,
@@ -99,9 +137,17 @@ pub fn push_item(
     given: &str,
     rest: &str,
 ) -> Result<(), AllocError> {
-    let (changes, keys) = halves(rest, " | ");
-    let text = edit_text(alloc, given, changes)?;
-    push_over(alloc, out, &bundle_of(alloc, text.as_str()), keys)
+    push_after_given(alloc, out, given, rest, Wanted::Fragment)
+}
+
+/// Writes the cells that the same reads.
+pub fn push_item_reads(
+    alloc: Global,
+    out: &mut String,
+    given: &str,
+    rest: &str,
+) -> Result<(), AllocError> {
+    push_after_given(alloc, out, given, rest, Wanted::Reads)
 }
 
 /// Writes how many bytes the same has, where it is long.
@@ -140,5 +186,11 @@ pub fn push_picked(
 ) -> Result<(), AllocError> {
     let (places, keys) = halves(rest, " | ");
     let text = chosen(alloc, given, places)?;
-    push_over(alloc, out, &bundle_of(alloc, text.as_str()), keys)
+    push_over(
+        alloc,
+        out,
+        &bundle_of(alloc, text.as_str()),
+        keys,
+        Wanted::Fragment,
+    )
 }

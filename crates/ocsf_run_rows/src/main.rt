@@ -8,6 +8,7 @@ mod commands;
 mod items;
 mod lookups;
 mod objects;
+mod reads;
 mod schemas;
 mod small_sink;
 
