@@ -1,12 +1,12 @@
 -- A class that has a number isn't hidden, and is found by it.
-use Rattle.std.proofs.Common.{◌≡◌, ℕ, ◌<◌, List, [], ◌∷◌, map, length, get_or, Bool, true, false, cond, ◌&&◌, not, if◌then◌else◌, Option, Some, None, unwrap_or, refl, sym, ap, ◌∙◌}
+use Rattle.std.proofs.Common.{◌≡◌, ℕ, List, [], ◌∷◌, map, get_or, Bool, true, false, cond, ◌&&◌, not, if◌then◌else◌, Option, Some, None, unwrap_or, refl, sym, ap, ◌∙◌}
 use Rattle.std.specs.Prelude.{All, IfSome, find, is_none, decimal, ◌==◌, ◌||◌}
 use Rattle.std.specs.Option.{option_map, option_map_or, option_and_then}
 use Rattle.std.specs.List.{list_any}
 use Rattle.std.specs.Ordering.{is_eq, is_lt}
 use Rattle.std.specs.FinMap.Entries.{below_all}
 use Rattle.std.proofs.lemmas.Bool.{and_parts, eq-eqb}
-use Rattle.std.proofs.lemmas.List.Elements.{All-map, All-get_or, All-from_get_or, All-head, All-tail}
+use Rattle.std.proofs.lemmas.List.Elements.{All-map, All-get_or, All-from_get_or}
 use Rattle.ocsf_tree.specs.ByName.{text_cmp, named, at_name, IsByName}
 use Rattle.ocsf_tree.specs.Key.{key_text, same_side}
 use Rattle.ocsf_tree.specs.declared.key.Key.{Key}
@@ -25,7 +25,7 @@ use Rattle.ocsf_bundle.proofs.KeysInOrder.{keys_of_items}
 use Rattle.ocsf_kind.specs.Numbers.{class_uid}
 use Rattle.ocsf_rules.specs.Names.{key, ext_of}
 use Rattle.ocsf_rules.specs.Chain.{own_file}
-use Rattle.ocsf_rules.specs.Compiled.{is_class_side, starts_low, is_hidden, uid, ext_uid, category, class_number, item}
+use Rattle.ocsf_rules.specs.Compiled.{is_class_side, starts_low, ext_uid, category, class_number, item}
 use Rattle.ocsf_rules.specs.Compilation.{compilation}
 use Rattle.ocsf_rules.specs.ItemFaults.{fault}
 use Rattle.ocsf_rules.specs.PrintedSchema.{schema_parts}

@@ -1,6 +1,6 @@
 -- A compilation is closed: every type that an item names has its kind, and every object its item.
 use Rattle.std.proofs.Common.{◌≡◌, ℕ, List, [], ◌∷◌, ◌++◌, map, Bool, true, false, cond, ◌||◌, not, if◌then◌else◌, is_some, Option, Some, None, Result, Ok, Err, unwrap_or, refl, sym, ap, ◌∙◌, subst}
-use Rattle.std.specs.Prelude.{◌≢◌, ⊤, All, codes, flat_map, filter_map, find}
+use Rattle.std.specs.Prelude.{◌≢◌, All, codes, filter_map, find}
 use Rattle.std.specs.Option.{option_map, option_and_then, option_or}
 use Rattle.std.specs.List.{cons_option}
 use Rattle.std.specs.Result.{result_ok}
@@ -19,14 +19,12 @@ use Rattle.ocsf_tree.specs.declared.key.Side.TheVariants.{Object}
 use Rattle.ocsf_tree.proofs.FirstOfEach.{at_name-append, at_name-first_of_each}
 use Rattle.ocsf_raw.specs.declared.dictionary.TypeEntry.{TypeEntry}
 use Rattle.ocsf_schema.specs.Bases.{base_of}
-use Rattle.ocsf_schema.specs.Lookups.{item_at}
 use Rattle.ocsf_schema.specs.declared.parts.SchemaParts.{SchemaParts}
 use Rattle.ocsf_schema.specs.declared.records.Attr.{Attr}
 use Rattle.ocsf_schema.specs.declared.records.Base.{Base}
 use Rattle.ocsf_schema.specs.declared.records.Item.{Item}
 use Rattle.ocsf_schema.specs.declared.records.Kind.{Kind}
 use Rattle.ocsf_schema.specs.declared.records.Limit.{Limit}
-use Rattle.ocsf_schema.specs.declared.records.Target.{Target}
 use Rattle.ocsf_schema.specs.declared.records.Target.TheVariants as target
 use Rattle.ocsf_merge.specs.Table.{table_of}
 use Rattle.ocsf_merge.specs.declared.spoken.Spoken.{Spoken}
@@ -36,7 +34,7 @@ use Rattle.ocsf_kind.specs.Kinds.{listed, way, limits_of, kind_at, kind_along, k
 use Rattle.ocsf_kind.proofs.Ways.{way-end}
 use Rattle.ocsf_bundle.specs.Active.{active_files}
 use Rattle.ocsf_bundle.specs.BundleFaults.{type_fault, listed_types}
-use Rattle.ocsf_bundle.specs.Listing.{Listing, listing}
+use Rattle.ocsf_bundle.specs.Listing.{listing}
 use Rattle.ocsf_bundle.specs.Looks.{Looks, is_there}
 use Rattle.ocsf_bundle.specs.Shown.{There}
 use Rattle.ocsf_bundle.specs.Stored.{Stored}
@@ -45,10 +43,10 @@ use Rattle.ocsf_bundle.proofs.KeysInOrder.{keys_of_items}
 use Rattle.ocsf_rules.specs.Names.{ext_of, key, exists_cell, is_shown, found, item_at as key_found}
 use Rattle.ocsf_rules.specs.Chain.{layers}
 use Rattle.ocsf_rules.specs.declared.said.TypeSaid.{TypeSaid}
-use Rattle.ocsf_rules.specs.Attribute.{dict_said, type_of, is_base_type, is_data_type, is_open_object, object_candidates, object_cells, object_named, open_object, target_named, target_of}
+use Rattle.ocsf_rules.specs.Attribute.{dict_said, type_of, is_base_type, is_data_type, is_open_object, object_candidates, object_named, open_object, target_named, target_of}
 use Rattle.ocsf_rules.specs.Compiled.{item}
 use Rattle.ocsf_rules.specs.Compilation.{compilation}
-use Rattle.ocsf_rules.specs.MergedDictionary.{base_types, data_types, kinds}
+use Rattle.ocsf_rules.specs.MergedDictionary.{base_types, data_types}
 use Rattle.ocsf_rules.specs.PrintedSchema.{schema_parts}
 use Rattle.ocsf_rules.specs.Verdict.{types_of, IsFaultless}
 use Rattle.ocsf_rule_laws.specs.ClosedLaws.{refused_kind, HasEveryKind, IsThere, LeadsIntoSchema}

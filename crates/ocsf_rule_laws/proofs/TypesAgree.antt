@@ -1,11 +1,10 @@
 -- A type has a fault as a type of the files exactly where it leads to no kind.
-use Rattle.std.proofs.Common.{◌≡◌, ℕ, suc, zero, List, [], ◌∷◌, ◌++◌, map, Bool, true, false, cond, ◌||◌, not, if◌then◌else◌, is_some, Option, Some, None, Result, Ok, Err, unwrap_or, refl, sym, ap, ◌∙◌}
-use Rattle.std.specs.Prelude.{◌≢◌, flat_map, filter_map}
+use Rattle.std.proofs.Common.{◌≡◌, ℕ, suc, zero, List, [], ◌∷◌, map, Bool, true, false, cond, ◌||◌, not, if◌then◌else◌, is_some, Option, Some, None, Result, Ok, Err, unwrap_or, refl, sym, ap, ◌∙◌}
+use Rattle.std.specs.Prelude.{flat_map, filter_map}
 use Rattle.std.specs.Option.{option_map, option_and_then, option_or}
 use Rattle.std.specs.List.{cons_option}
 use Rattle.std.specs.Ordering.{is_eq}
 use Rattle.ocsf_tree.specs.ByName.{text_cmp, at_name}
-use Rattle.ocsf_tree.specs.declared.fault.Fault.{Fault}
 use Rattle.ocsf_tree.specs.declared.fault.Code.TheVariants as code
 use Rattle.ocsf_tree.proofs.FirstOfEach.{name-at_name, at_name-append, at_name-first_of_each}
 use Rattle.ocsf_raw.specs.declared.dictionary.TypeEntry.{TypeEntry}
@@ -23,12 +22,12 @@ use Rattle.ocsf_bundle.specs.BundleFaults.{Kinds, fault, fault_if, last_parent, 
 use Rattle.ocsf_bundle.specs.BundleFaults.{is_end as has_end}
 use Rattle.ocsf_bundle.specs.FilesLook.{looks, types_said}
 use Rattle.ocsf_bundle.specs.FilesLook.{kind_of as entry_in}
-use Rattle.ocsf_bundle.specs.Listing.{Listing, listing, type_names}
+use Rattle.ocsf_bundle.specs.Listing.{listing, type_names}
 use Rattle.ocsf_bundle.specs.Looks.{Looks, is_there}
 use Rattle.ocsf_bundle.specs.Stored.{Stored}
 use Rattle.ocsf_bundle.specs.declared.stored.ActiveFile.{ActiveFile}
 use Rattle.ocsf_bundle.proofs.Listed.{found_layers}
-use Rattle.ocsf_rules.specs.MergedDictionary.{last_giving, merged_layers, merged_type, merged_types}
+use Rattle.ocsf_rules.specs.MergedDictionary.{last_giving, merged_layers, merged_type}
 use Rattle.ocsf_rules.specs.Verdict.{types_of}
 use Rattle.ocsf_rule_laws.specs.ClosedLaws.{refused_kind, TypesAgree}
 
