@@ -5,7 +5,6 @@ use Rattle.std.specs.Option.{option_map, option_and_then, option_or}
 use Rattle.std.specs.List.{cons_option}
 use Rattle.std.specs.Result.{result_ok}
 use Rattle.std.specs.Str.{bytes_eq}
-use Rattle.std.specs.Ordering.{is_eq}
 use Rattle.std.specs.declared.cmp.Ordering.{Ordering}
 use Rattle.std.specs.declared.cmp.Ordering.TheVariants.{Less, Equal, Greater}
 use Rattle.std.specs.FinMap.Entries.{by_order}
@@ -51,7 +50,7 @@ use Rattle.ocsf_rules.specs.PrintedSchema.{schema_parts}
 use Rattle.ocsf_rules.specs.Verdict.{types_of, IsFaultless}
 use Rattle.ocsf_rule_laws.specs.ClosedLaws.{refused_kind, HasEveryKind, IsThere, LeadsIntoSchema}
 use Rattle.ocsf_rule_laws.proofs.Faultless.{no_type_faults}
-use Rattle.ocsf_rule_laws.proofs.TypesAgree.{looks_in, among, among_some, listed_is_there, types_agree}
+use Rattle.ocsf_rule_laws.proofs.TypesAgree.{looks_in, among, at_mapped, some_mapped, among_some, listed_is_there, types_agree}
 
 -- ---- lists
 
@@ -72,15 +71,6 @@ module _ {X : Type 0} (P : X → Type 0) (name : X → List ℕ) where
   All-first_of_each : (xs : List X) → All P xs → All P (first_of_each name xs)
   All-first_of_each [] all = all
   All-first_of_each (x ∷ xs) all = All-put_by_name x (first_of_each name xs) (All-head P x xs all) (All-first_of_each xs (All-tail P x xs all))
-
--- items are found under the names that they come from
-pub at_mapped : {X Y : Type 0} (f : X → Y) (name : Y → List ℕ) (q : List ℕ) (xs : List X) → at_name name q (map f xs) ≡ option_map f (at_name (λ x. name (f x)) q xs)
-at_mapped f name q [] = refl
-at_mapped f name q (x ∷ xs) =
-    elim (is_eq (text_cmp q (name (f x)))) as (λ (b : Bool). cond b (Some (f x)) (at_name name q (map f xs)) ≡ option_map f (cond b (Some x) (at_name (λ x. name (f x)) q xs))) [
-      | true ↦ refl
-      | false ↦ at_mapped f name q xs
-    ]
 
 -- ---- kinds
 
@@ -226,10 +216,6 @@ is_shown_there (x ∷ xs) = refl
 some_if : {X : Type 0} (b : Bool) (x : X) → is_some (if b then Some x else None) ≡ b
 some_if true x = refl
 some_if false x = refl
-
-some_mapped : {X Y : Type 0} (f : X → Y) (o : Option X) → is_some (option_map f o) ≡ is_some o
-some_mapped f None = refl
-some_mapped f (Some x) = refl
 
 object_there : (bundle : Stored) (n : List ℕ) → shown_object (looks_in bundle) n ≡ true → IsThere (compilation bundle) (target.Object n)
 unfolding compilation schema_parts item

@@ -39,21 +39,24 @@ among q names = at_name (λ n. n) q names
 
 -- ---- a listed type is one that a dictionary has
 
--- the items of a list are found by their names
-pub among_names : {X : Type 0} (name : X → List ℕ) (q : List ℕ) (xs : List X) → among q (map name xs) ≡ option_map name (at_name name q xs)
-among_names name q [] = refl
-among_names name q (x ∷ xs) =
-    elim (is_eq (text_cmp q (name x))) as (λ (b : Bool). cond b (Some (name x)) (among q (map name xs)) ≡ option_map name (cond b (Some x) (at_name name q xs))) [
+-- items are found under the names that they come from
+pub at_mapped : {X Y : Type 0} (f : X → Y) (name : Y → List ℕ) (q : List ℕ) (xs : List X)
+    → at_name name q (map f xs) ≡ option_map f (at_name (λ x. name (f x)) q xs)
+at_mapped f name q [] = refl
+at_mapped f name q (x ∷ xs) =
+    elim (is_eq (text_cmp q (name (f x)))) as (λ (b : Bool). cond b (Some (f x)) (at_name name q (map f xs))
+    ≡ option_map f (cond b (Some x) (at_name (λ x. name (f x)) q xs))) [
       | true ↦ refl
-      | false ↦ among_names name q xs
+      | false ↦ at_mapped f name q xs
     ]
 
-some_mapped : {X Y : Type 0} (f : X → Y) (o : Option X) → is_some (option_map f o) ≡ is_some o
+pub some_mapped : {X Y : Type 0} (f : X → Y) (o : Option X) → is_some (option_map f o) ≡ is_some o
 some_mapped f None = refl
 some_mapped f (Some x) = refl
 
-pub among_some : {X : Type 0} (name : X → List ℕ) (q : List ℕ) (xs : List X) → is_some (among q (map name xs)) ≡ is_some (at_name name q xs)
-among_some name q xs = ap is_some (among_names name q xs) ∙ some_mapped name (at_name name q xs)
+pub among_some : {X : Type 0} (name : X → List ℕ) (q : List ℕ) (xs : List X)
+    → is_some (among q (map name xs)) ≡ is_some (at_name name q xs)
+among_some name q xs = ap is_some (at_mapped name (λ n. n) q xs) ∙ some_mapped name (at_name name q xs)
 
 -- one file, and the rest
 one_more : {X : Type 0} (a rest : Option (List ℕ)) (o : Option X) (xs : List X) → is_some a ≡ is_some o → is_some rest ≡ is_there xs → is_some (option_or a rest) ≡ is_there (cons_option o xs)
@@ -77,14 +80,6 @@ listed_is_there bundle q =
 
 -- ---- the merged types
 
-merged_at : (b : Looks) (q : List ℕ) (names : List (List ℕ)) → listed (map (merged_type b) names) q ≡ option_map (merged_type b) (among q names)
-merged_at b q [] = refl
-merged_at b q (n ∷ names) =
-    elim (is_eq (text_cmp q n)) as (λ (c : Bool). cond c (Some (merged_type b n)) (listed (map (merged_type b) names) q) ≡ option_map (merged_type b) (cond c (Some n) (among q names))) [
-      | true ↦ refl
-      | false ↦ merged_at b q names
-    ]
-
 abbrev if_there : List ℕ → List TypeEntry → Option TypeEntry
 if_there q entries = if is_there entries then Some (merged_layers q entries) else None
 
@@ -96,7 +91,7 @@ pub listed_type : (bundle : Stored) (q : List ℕ) → listed (types_of bundle) 
 listed_type bundle q =
     let b = looks_in bundle in
     let names = (listing bundle).types in
-    merged_at b q names ∙ found_type b q (among q names) (λ x e. name-at_name (λ n. n) q names x e) (listed_is_there bundle q)
+    at_mapped (merged_type b) (λ (t : TypeEntry). t.name) q names ∙ found_type b q (among q names) (λ x e. name-at_name (λ n. n) q names x e) (listed_is_there bundle q)
 
 -- ---- both walks move and end alike
 
