@@ -63,7 +63,8 @@ module _ (types : List TypeEntry) (clean : All HasReadPattern types) where
 
 -- ---- those of a clean bundle are read
 
-types_read : (least : Option Fault) (types : List TypeEntry) → IsVerdictAfter least types None → All HasReadPattern types
+types_read : (least : Option Fault) (types : List TypeEntry) → IsVerdictAfter least types None
+    → All HasReadPattern types
 types_read None types clean = clean
 types_read (Some least) types clean = cc
 

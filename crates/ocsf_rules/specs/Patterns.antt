@@ -1,6 +1,5 @@
 -- The patterns of types, by what `regex` reads.
-use Rattle.std.specs.Prelude.{◌≡◌, ℕ, ◌<◌, List, chars, None, IsSome, IsSomeAnd}
-use Rattle.std.specs.Prelude.{All, IfSome}
+use Rattle.std.specs.Prelude.{◌≡◌, ℕ, ◌<◌, List, chars, None, All, IfSome, IsSome, IsSomeAnd}
 use Rattle.regex.specs.Patterns.{default_config}
 use Rattle.regex.specs.Failures.{IsPattern}
 use Rattle.regex_syntax.specs.Grammar.{read}
