@@ -1,5 +1,6 @@
 -- Nothing is wrong with an event that is allowed.
-use Rattle.std.proofs.Common.{◌≡◌, ℕ, List, [], ◌∷◌, Bool, true, false, true≢false, Option, Some, None, refl, sym, ◌∙◌, ap, subst, if◌then◌else◌}
+use Rattle.std.proofs.Common.{◌≡◌, ℕ, List, [], ◌∷◌, Bool, true, false, true≢false, Option, Some, None, refl, sym, ◌∙◌}
+use Rattle.std.proofs.Common.{ap, subst, if◌then◌else◌}
 use Rattle.std.proofs.Common.{suc, zero}
 use Rattle.std.specs.List.{AllByRecursion, cons_option}
 use Rattle.std.specs.Prelude.{◌&&◌, filter, filter_map, Contains, IfSome, IsSomeAnd, slice_get, is_some}
@@ -22,12 +23,22 @@ use Rattle.ocsf_schema.specs.declared.records.Kind.{Kind}
 use Rattle.ocsf_schema.specs.declared.records.Limit.{Limit}
 use Rattle.ocsf_schema.specs.declared.parts.SchemaParts.{SchemaParts}
 use Rattle.ocsf_event_rules.specs.Profiles.{as_list, as_text, profile_list, is_in_force, is_profile, named_profiles}
-use Rattle.ocsf_event_rules.specs.EventClass.{as_object, value_of, item_named, kind_named, attribute_named, class_of, class_of_event}
-use Rattle.ocsf_event_rules.specs.Allowed.{Fits, Open, Closed, FitsMember, Member_of, Accepts, Single, Each, AcceptsSingle, OfKind, OfObject, OfAnything, IsAllowed}
-use Rattle.ocsf_event_rules.specs.Conditions.{IsOfBase, IsOfKind, MeetsLimit, key_in, listed_in_force, HasOneOrMore, HasJustOne}
-use Rattle.ocsf_event_rules.specs.Wrong.{Wrong, AttributeUnknown, ProfileInactive, RequiredMissing, WrongType, TooLong, OutOfRange, Pattern, NotAnInstant, NotAValue, EnumUnknown, AtLeastOne, JustOne, NumberMismatch, ProfileUnknown}
-use Rattle.ocsf_event_rules.specs.Violations.{IsWrongSingle, IsWrongList, IsWrongType, IsLimitBroken, BreaksLimit, IsNoKey, IsWrongValue, IsWrongMember, IsWrongObject, IsWrongEvent, IsViolation, NoObject, NoClass, AtValue, AtMember, AtObject, OnEvent}
-use Rattle.ocsf_event_rules.specs.Judged.{Judge, OfClass, OfAttribute, OfElement, Seen, ItemObject, with_item, object_of, item_of, single_attr, object_seen, of_attribute, of_element, attribute_in_force, member_seen, element_of, element_seen, seen_at, seen_from, of_class, seen}
+use Rattle.ocsf_event_rules.specs.EventClass.{as_object, value_of, item_named, kind_named, attribute_named, class_of}
+use Rattle.ocsf_event_rules.specs.EventClass.{class_of_event}
+use Rattle.ocsf_event_rules.specs.Allowed.{Fits, Open, Closed, FitsMember, Member_of, Accepts, Single, Each}
+use Rattle.ocsf_event_rules.specs.Allowed.{AcceptsSingle, OfKind, OfObject, OfAnything, IsAllowed}
+use Rattle.ocsf_event_rules.specs.Conditions.{IsOfBase, IsOfKind, MeetsLimit, key_in, listed_in_force, HasOneOrMore}
+use Rattle.ocsf_event_rules.specs.Conditions.{HasJustOne}
+use Rattle.ocsf_event_rules.specs.Violations.{IsWrongSingle, IsWrongList, IsWrongType, IsLimitBroken, BreaksLimit}
+use Rattle.ocsf_event_rules.specs.Violations.{IsNoKey, IsWrongValue, IsWrongMember, IsWrongObject, IsWrongEvent}
+use Rattle.ocsf_event_rules.specs.Violations.{TooLong, OutOfRange, Pattern, NotAnInstant, NotAValue, WrongType}
+use Rattle.ocsf_event_rules.specs.Violations.{BrokenLimit, EnumUnknown, Unknown, Inactive, Missing, NoneOfThem}
+use Rattle.ocsf_event_rules.specs.Violations.{NotJustOne, NumberMismatch, ProfileUnknown, IsViolation, NoObject}
+use Rattle.ocsf_event_rules.specs.Violations.{NoClass, AtValue, AtMember, AtObject, OnEvent}
+use Rattle.ocsf_event_rules.specs.Judged.{Judge, OfClass, OfAttribute, OfElement, Seen, ItemObject, with_item}
+use Rattle.ocsf_event_rules.specs.Judged.{object_of, item_of, single_attr, object_seen, of_attribute, of_element}
+use Rattle.ocsf_event_rules.specs.Judged.{attribute_in_force, member_seen, element_of, element_seen, seen_at, seen_from}
+use Rattle.ocsf_event_rules.specs.Judged.{of_class, seen}
 
 pub none_is_some : {X : Type 0} (x : X) → None ≡ Some x → ⊥
 none_is_some x e = cc
@@ -40,11 +51,13 @@ contained xs k x e = (k, slice_get_within xs k x e, get_or_from_slice_get xs k x
 
 module _ (schema : SchemaParts) (profiles : List (List ℕ)) where
   abbrev pub IsGood : Judge → Tree → Type 0
-  IsGood (OfClass class) value = (members : List Member) → as_object value ≡ Some members → Fits schema profiles class members
+  IsGood (OfClass class) value =
+      (members : List Member) → as_object value ≡ Some members → Fits schema profiles class members
   IsGood (OfAttribute attr) value = Accepts schema profiles attr value
   IsGood (OfElement attr) value = AcceptsSingle schema profiles attr value
 
-  single_of : {attr : Attr} {value : Tree} → Accepts schema profiles attr value → attr.is_array ≡ false → AcceptsSingle schema profiles attr value
+  single_of : {attr : Attr} {value : Tree} → Accepts schema profiles attr value → attr.is_array ≡ false
+      → AcceptsSingle schema profiles attr value
   single_of (Single attr value array one) e = one
   single_of (Each attr value values array list each) e = absurd (true≢false (sym array ∙ e))
 
@@ -56,12 +69,16 @@ module _ (schema : SchemaParts) (profiles : List (List ℕ)) where
       → option_and_then (λ item. option_map (with_item item) (Some members)) item ≡ Some object
       → ((i : Item) → item ≡ Some i → Fits schema profiles i members) → Fits schema profiles object.item object.members
   of_members None members object e fits = absurd (none_is_some object e)
-  of_members (Some i) members object e fits = subst (λ (o : ItemObject). Fits schema profiles o.item o.members) (some_is (with_item i members) object e) (fits i refl)
+  of_members (Some i) members object e fits =
+      subst (λ (o : ItemObject). Fits schema profiles o.item o.members) (some_is (with_item i members) object e)
+      (fits i refl)
 
   of_single : {attr : Attr} {value : Tree} (object : ItemObject) → AcceptsSingle schema profiles attr value
       → judged (object_of schema attr.target) value ≡ Some object → Fits schema profiles object.item object.members
-  of_single object (OfKind attr value name named kind key) e = absurd (none_is_some object (subst (λ t. judged (object_of schema t) value ≡ Some object) named e))
-  of_single object (OfAnything attr value named some) e = absurd (none_is_some object (subst (λ t. judged (object_of schema t) value ≡ Some object) named e))
+  of_single object (OfKind attr value name named kind key) e =
+      absurd (none_is_some object (subst (λ t. judged (object_of schema t) value ≡ Some object) named e))
+  of_single object (OfAnything attr value named some) e =
+      absurd (none_is_some object (subst (λ t. judged (object_of schema t) value ≡ Some object) named e))
   of_single object (OfObject attr value members name named is fits) e =
       of_members (item_named schema name) members object
       (subst (λ o. option_and_then (λ item. option_map (with_item item) o) (item_named schema name) ≡ Some object) is
@@ -69,18 +86,24 @@ module _ (schema : SchemaParts) (profiles : List (List ℕ)) where
       fits
 
   of_list : (attr : Attr) (value : Tree) (object : ItemObject) (array : Bool) → attr.is_array ≡ array
-      → judged (option_and_then (λ a. object_of schema a.target) (if array then None else Some attr)) value ≡ Some object
+      → judged (option_and_then (λ a. object_of schema a.target) (if array then None else Some attr)) value
+      ≡ Some object
       → Accepts schema profiles attr value → Fits schema profiles object.item object.members
   of_list attr value object true array e good = absurd (none_is_some object e)
   of_list attr value object false array e good = of_single object (single_of good array) e
 
-  of_root : (class : Item) (members : Option (List Member)) (object : ItemObject) → option_map (with_item class) members ≡ Some object
-      → ((ms : List Member) → members ≡ Some ms → Fits schema profiles class ms) → Fits schema profiles object.item object.members
+  of_root : (class : Item) (members : Option (List Member)) (object : ItemObject)
+      → option_map (with_item class) members ≡ Some object
+      → ((ms : List Member) → members ≡ Some ms → Fits schema profiles class ms)
+      → Fits schema profiles object.item object.members
   of_root class None object e fits = absurd (none_is_some object e)
-  of_root class (Some ms) object e fits = subst (λ (o : ItemObject). Fits schema profiles o.item o.members) (some_is (with_item class ms) object e) (fits ms refl)
+  of_root class (Some ms) object e fits =
+      subst (λ (o : ItemObject). Fits schema profiles o.item o.members) (some_is (with_item class ms) object e)
+      (fits ms refl)
 
   -- an object that an item judges fits it
-  good_object : (judge : Judge) (value : Tree) (object : ItemObject) → IsGood judge value → judged (item_of schema judge) value ≡ Some object
+  good_object : (judge : Judge) (value : Tree) (object : ItemObject) → IsGood judge value
+      → judged (item_of schema judge) value ≡ Some object
       → Fits schema profiles object.item object.members
   good_object (OfClass class) value object good e = of_root class (as_object value) object e good
   good_object (OfAttribute attr) value object good e = of_list attr value object attr.is_array refl e good
@@ -107,7 +130,8 @@ module _ (schema : SchemaParts) (profiles : List (List ℕ)) where
       subst IsGoodSeen
       (some_is (of_attribute attr value) next
       (subst (λ b. picked (if_in_force b attr) (Some value) ≡ Some next) force
-      (subst (λ a. picked (option_and_then (λ attr. if_in_force (is_in_force profiles attr) attr) a) (Some value) ≡ Some next) named e)))
+      (subst (λ a. picked (option_and_then (λ attr. if_in_force (is_in_force profiles attr) attr) a) (Some value)
+      ≡ Some next) named e)))
       accepts
 
   good_closed : (item : Item) (name : List ℕ) (value : Option Tree) (next : Seen)
@@ -119,16 +143,22 @@ module _ (schema : SchemaParts) (profiles : List (List ℕ)) where
   good_below : {item : Item} {members : List Member} (name : List ℕ) (next : Seen) → Fits schema profiles item members
       → picked (attribute_in_force profiles item name) (value_of name members) ≡ Some next → IsGoodSeen next
   good_below name next (Open item members none) e =
-      absurd (none_is_some next (subst (λ attrs. picked (option_and_then (λ attr. if_in_force (is_in_force profiles attr) attr) (at_name (λ (a : Attr). a.name) name attrs)) (value_of name members) ≡ Some next) none e))
-  good_below name next (Closed item members each required more one) e = good_closed item name (value_of name members) next (each name) e
+      absurd (none_is_some next
+      (subst (λ attrs. picked (option_and_then (λ attr. if_in_force (is_in_force profiles attr) attr)
+      (at_name (λ (a : Attr). a.name) name attrs)) (value_of name members) ≡ Some next) none e))
+  good_below name next (Closed item members each required more one) e =
+      good_closed item name (value_of name members) next (each name) e
 
-  of_element_good : (attr : Attr) (element : Option Tree) (next : Seen) → ((one : Tree) → element ≡ Some one → AcceptsSingle schema profiles attr one)
+  of_element_good : (attr : Attr) (element : Option Tree) (next : Seen)
+      → ((one : Tree) → element ≡ Some one → AcceptsSingle schema profiles attr one)
       → option_map (of_element attr) element ≡ Some next → IsGoodSeen next
   of_element_good attr None next good e = absurd (none_is_some next e)
   of_element_good attr (Some one) next good e = subst IsGoodSeen (some_is (of_element attr one) next e) (good one refl)
 
   abbrev pub if_array : Bool → ℕ → Attr → Option (List Tree) → Option Seen
-  if_array array position attr values = if array then option_map (of_element attr) (option_and_then (λ values. slice_get values position) values) else None
+  if_array array position attr values =
+      if array then option_map (of_element attr) (option_and_then (λ values. slice_get values position) values)
+      else None
 
   good_element : {attr : Attr} {value : Tree} (position : ℕ) (next : Seen) → Accepts schema profiles attr value
       → element_of position attr value ≡ Some next → IsGoodSeen next
@@ -136,7 +166,8 @@ module _ (schema : SchemaParts) (profiles : List (List ℕ)) where
       absurd (none_is_some next (subst (λ b. if_array b position attr (as_list value) ≡ Some next) array e))
   good_element position next (Each attr value values array list each) e =
       of_element_good attr (slice_get values position) next (λ one is. each one (contained values position one is))
-      (subst (λ o. if_array true position attr o ≡ Some next) list (subst (λ b. if_array b position attr (as_list value) ≡ Some next) array e))
+      (subst (λ o. if_array true position attr o ≡ Some next) list
+      (subst (λ b. if_array b position attr (as_list value) ≡ Some next) array e))
 
   good_object_below : (name : List ℕ) (object : Option ItemObject) (next : Seen)
       → ((o : ItemObject) → object ≡ Some o → Fits schema profiles o.item o.members)
@@ -144,20 +175,25 @@ module _ (schema : SchemaParts) (profiles : List (List ℕ)) where
   good_object_below name None next fits e = absurd (none_is_some next e)
   good_object_below name (Some o) next fits e = good_below name next (fits o refl) e
 
-  good_step : (step : Step) (here next : Seen) → IsGoodSeen here → seen_at schema profiles step here ≡ Some next → IsGoodSeen next
-  good_step (Name name) here next good e = good_object_below name (object_seen schema here) next (λ o is. good_object here.judge here.value o good is) e
+  good_step : (step : Step) (here next : Seen) → IsGoodSeen here → seen_at schema profiles step here ≡ Some next
+      → IsGoodSeen next
+  good_step (Name name) here next good e =
+      good_object_below name (object_seen schema here) next (λ o is. good_object here.judge here.value o good is) e
   good_step (At position) here next good e = good_place here.judge here.value good e
     where
-      good_place : (judge : Judge) (value : Tree) → IsGood judge value → element_seen position (record { judge = judge; value = value }) ≡ Some next → IsGoodSeen next
+      good_place : (judge : Judge) (value : Tree) → IsGood judge value
+          → element_seen position (record { judge = judge; value = value }) ≡ Some next → IsGoodSeen next
       good_place (OfClass class) value good e = absurd (none_is_some next e)
       good_place (OfElement attr) value good e = absurd (none_is_some next e)
       good_place (OfAttribute attr) value good e = good_element position next good e
 
   -- what is seen from there is good
-  good_from : (place : List Step) (here next : Seen) → IsGoodSeen here → seen_from schema profiles here place ≡ Some next → IsGoodSeen next
+  good_from : (place : List Step) (here next : Seen) → IsGoodSeen here
+      → seen_from schema profiles here place ≡ Some next → IsGoodSeen next
   good_from [] here next good e = subst IsGoodSeen (some_is here next e) good
   good_from (step ∷ place) here next good e =
-      further (seen_at schema profiles step here) (λ n is. good_step step here n good is) (λ n is e. good_from place n next is e) e
+      further (seen_at schema profiles step here) (λ n is. good_step step here n good is)
+      (λ n is e. good_from place n next is e) e
     where
       further : (o : Option Seen) → ((n : Seen) → o ≡ Some n → IsGoodSeen n)
           → ((n : Seen) → IsGoodSeen n → seen_from schema profiles n place ≡ Some next → IsGoodSeen next)
@@ -173,11 +209,13 @@ module _ (schema : SchemaParts) (profiles : List (List ℕ)) where
   none_there : {X : Type 0} (o : Option X) → is_some o ≡ true → o ≡ None → ⊥
   none_there o e n = true≢false (sym e ∙ ap is_some n)
 
-  of_kind : (kind : Option Kind) (value : Tree) → IfSome kind (λ k. IsOfKind k value) → IsSomeAnd kind (λ k. IsOfBase k.base value → ⊥) → ⊥
+  of_kind : (kind : Option Kind) (value : Tree) → IfSome kind (λ k. IsOfKind k value)
+      → IsSomeAnd kind (λ k. IsOfBase k.base value → ⊥) → ⊥
   of_kind None value good wrong = wrong
   of_kind (Some k) value good wrong = wrong good.0
 
-  not_wrong_single : {attr : Attr} {value : Tree} (detail : List ℕ) → AcceptsSingle schema profiles attr value → IsWrongSingle schema attr.target value detail → ⊥
+  not_wrong_single : {attr : Attr} {value : Tree} (detail : List ℕ) → AcceptsSingle schema profiles attr value
+      → IsWrongSingle schema attr.target value detail → ⊥
   not_wrong_single detail (OfKind attr value name named kind key) wrong =
       of_kind (kind_named schema name) value kind (subst (λ t. IsWrongSingle schema t value detail) named wrong).0
   not_wrong_single detail (OfObject attr value members name named is fits) wrong =
@@ -185,36 +223,44 @@ module _ (schema : SchemaParts) (profiles : List (List ℕ)) where
   not_wrong_single detail (OfAnything attr value named some) wrong =
       none_there (as_object value) some (subst (λ t. IsWrongSingle schema t value detail) named wrong).0
 
-  not_wrong_list : {attr : Attr} {value : Tree} (detail : List ℕ) → Accepts schema profiles attr value → IsWrongList schema attr.is_array attr.target value detail → ⊥
-  not_wrong_list detail (Single attr value array one) wrong = not_wrong_single detail one (subst (λ b. IsWrongList schema b attr.target value detail) array wrong)
+  not_wrong_list : {attr : Attr} {value : Tree} (detail : List ℕ) → Accepts schema profiles attr value
+      → IsWrongList schema attr.is_array attr.target value detail → ⊥
+  not_wrong_list detail (Single attr value array one) wrong =
+      not_wrong_single detail one (subst (λ b. IsWrongList schema b attr.target value detail) array wrong)
   not_wrong_list detail (Each attr value values array list each) wrong =
       none_some (as_list value) values list (subst (λ b. IsWrongList schema b attr.target value detail) array wrong).0
 
-  not_wrong_type : (judge : Judge) (value : Tree) (detail : List ℕ) → IsGood judge value → IsWrongType schema judge value detail → ⊥
+  not_wrong_type : (judge : Judge) (value : Tree) (detail : List ℕ) → IsGood judge value
+      → IsWrongType schema judge value detail → ⊥
   not_wrong_type (OfClass class) value detail good wrong = wrong
   not_wrong_type (OfAttribute attr) value detail good wrong = not_wrong_list detail good wrong
   not_wrong_type (OfElement attr) value detail good wrong = not_wrong_single detail good wrong
 
-  unbroken : (limit : Limit) (value : Tree) (code : Wrong) (detail : List ℕ) → MeetsLimit limit value → IsLimitBroken limit value code detail → ⊥
-  unbroken limit value TooLong detail meets broken = broken.0 meets.length
-  unbroken limit value OutOfRange detail meets broken = broken.0 meets.range
-  unbroken limit value Pattern detail meets broken = broken.0 meets.pattern
-  unbroken limit value NotAnInstant detail meets broken = broken.0 meets.instant
-  unbroken limit value NotAValue detail meets broken = broken.0 meets.values
-  unbroken limit value code detail meets broken = broken
+  unbroken : {limit : Limit} {value : Tree} {code : ℕ} {detail : List ℕ} → MeetsLimit limit value
+      → IsLimitBroken limit value code detail → ⊥
+  unbroken meets (TooLong most is not) = not meets.length
+  unbroken meets (OutOfRange span is not) = not meets.range
+  unbroken meets (Pattern not) = not meets.pattern
+  unbroken meets (NotAnInstant not) = not meets.instant
+  unbroken meets (NotAValue not) = not meets.values
 
-  all_unbroken : (kind : Option Kind) (value : Tree) (code : Wrong) (detail : List ℕ) → IfSome kind (λ k. IsOfKind k value)
-      → IsSomeAnd kind (λ k. IsOfBase k.base value × ((limit : Limit) × Contains k.limits limit × IsLimitBroken limit value code detail)) → ⊥
+  all_unbroken : (kind : Option Kind) (value : Tree) (code : ℕ) (detail : List ℕ) → IfSome kind (λ k. IsOfKind k value)
+      → IsSomeAnd kind (λ k. IsOfBase k.base value
+      × ((limit : Limit) × Contains k.limits limit × IsLimitBroken limit value code detail)) → ⊥
   all_unbroken None value code detail good wrong = wrong
   all_unbroken (Some k) value code detail good wrong =
       let at = wrong.1 in
-      unbroken at.0 value code detail (All-contains (λ l. MeetsLimit l value) k.limits at.0 good.1 at.1) at.2
+      unbroken (All-contains (λ l. MeetsLimit l value) k.limits at.0 good.1 at.1) at.2
 
-  breaks_none : {attr : Attr} {value : Tree} (code : Wrong) (detail : List ℕ) → AcceptsSingle schema profiles attr value → BreaksLimit schema attr.target value code detail → ⊥
+  breaks_none : {attr : Attr} {value : Tree} (code : ℕ) (detail : List ℕ) → AcceptsSingle schema profiles attr value
+      → BreaksLimit schema attr.target value code detail → ⊥
   breaks_none code detail (OfKind attr value name named kind key) wrong =
-      all_unbroken (kind_named schema name) value code detail kind (subst (λ t. BreaksLimit schema t value code detail) named wrong)
-  breaks_none code detail (OfObject attr value members name named is fits) wrong = subst (λ t. BreaksLimit schema t value code detail) named wrong
-  breaks_none code detail (OfAnything attr value named some) wrong = subst (λ t. BreaksLimit schema t value code detail) named wrong
+      all_unbroken (kind_named schema name) value code detail kind
+      (subst (λ t. BreaksLimit schema t value code detail) named wrong)
+  breaks_none code detail (OfObject attr value members name named is fits) wrong =
+      subst (λ t. BreaksLimit schema t value code detail) named wrong
+  breaks_none code detail (OfAnything attr value named some) wrong =
+      subst (λ t. BreaksLimit schema t value code detail) named wrong
 
   -- an object is no key
   no_key_in : (x : Tree-F Tree Member) (detail : List ℕ) → key_in x ≡ Some detail → is_some (members_of x) ≡ true → ⊥
@@ -225,28 +271,36 @@ module _ (schema : SchemaParts) (profiles : List (List ℕ)) where
   no_key_in (Tree-F.List ts) detail e h = true≢false (sym h)
   no_key_in (Tree-F.Members ms) detail e h = none_is_some detail e
 
-  is_a_key : {attr : Attr} {value : Tree} (detail : List ℕ) → AcceptsSingle schema profiles attr value → IsNoKey schema attr value detail → ⊥
+  is_a_key : {attr : Attr} {value : Tree} (detail : List ℕ) → AcceptsSingle schema profiles attr value
+      → IsNoKey schema attr value detail → ⊥
   is_a_key detail (OfKind attr value name named kind key) wrong = wrong.0 key
-  is_a_key detail (OfObject attr value members name named is fits) wrong = no_key_in (out-Tree value) detail wrong.1 (ap is_some is)
+  is_a_key detail (OfObject attr value members name named is fits) wrong =
+      no_key_in (out-Tree value) detail wrong.1 (ap is_some is)
   is_a_key detail (OfAnything attr value named some) wrong = no_key_in (out-Tree value) detail wrong.1 some
 
-  single_in_list : (attr : Attr) (value : Tree) (P : Attr → Type 0) (array : Bool) → attr.is_array ≡ array → Accepts schema profiles attr value
-      → ((a : Attr) → AcceptsSingle schema profiles a value → P a → ⊥) → IsSomeAnd (if array then None else Some attr) P → ⊥
+  single_in_list : (attr : Attr) (value : Tree) (P : Attr → Type 0) (array : Bool) → attr.is_array ≡ array
+      → Accepts schema profiles attr value
+      → ((a : Attr) → AcceptsSingle schema profiles a value → P a → ⊥) → IsSomeAnd (if array then None else Some attr) P
+      → ⊥
   single_in_list attr value P true array good none wrong = wrong
   single_in_list attr value P false array good none wrong = none attr (single_of good array) wrong
 
   single_wrong : (judge : Judge) (value : Tree) (P : Attr → Type 0) → IsGood judge value
       → ((a : Attr) → AcceptsSingle schema profiles a value → P a → ⊥) → IsSomeAnd (single_attr judge) P → ⊥
   single_wrong (OfClass class) value P good none wrong = wrong
-  single_wrong (OfAttribute attr) value P good none wrong = single_in_list attr value P attr.is_array refl good none wrong
+  single_wrong (OfAttribute attr) value P good none wrong =
+      single_in_list attr value P attr.is_array refl good none wrong
   single_wrong (OfElement attr) value P good none wrong = none attr good wrong
 
-  not_wrong_value : (here : Seen) (code : Wrong) (detail : List ℕ) → IsGoodSeen here → IsWrongValue schema here code detail → ⊥
-  not_wrong_value here WrongType detail good wrong = not_wrong_type here.judge here.value detail good wrong
-  not_wrong_value here EnumUnknown detail good wrong =
-      single_wrong here.judge here.value (λ a. IsNoKey schema a here.value detail) good (λ a accepts. is_a_key detail accepts) wrong
-  not_wrong_value here code detail good wrong =
-      single_wrong here.judge here.value (λ a. BreaksLimit schema a.target here.value code detail) good (λ a accepts. breaks_none code detail accepts) wrong
+  not_wrong_value : (here : Seen) {code : ℕ} {detail : List ℕ} → IsGoodSeen here → IsWrongValue schema here code detail
+      → ⊥
+  not_wrong_value here good (WrongType detail wrong) = not_wrong_type here.judge here.value detail good wrong
+  not_wrong_value here good (BrokenLimit code detail wrong) =
+      single_wrong here.judge here.value (λ a. BreaksLimit schema a.target here.value code detail) good
+      (λ a accepts. breaks_none code detail accepts) wrong
+  not_wrong_value here good (EnumUnknown detail wrong) =
+      single_wrong here.judge here.value (λ a. IsNoKey schema a here.value detail) good
+      (λ a accepts. is_a_key detail accepts) wrong
 
   -- ---- nor with an object that fits
 
@@ -254,71 +308,77 @@ module _ (schema : SchemaParts) (profiles : List (List ℕ)) where
   no_attribute item name none = ap (at_name (λ (a : Attr). a.name) name) none
 
   -- a member that is there
-  known_member : {item : Item} {members : List Member} (name : List ℕ) (value : Option Tree) → (item.attrs ≡ [] → ⊥) → Fits schema profiles item members
+  known_member : {item : Item} {members : List Member} (name : List ℕ) (value : Option Tree) → (item.attrs ≡ [] → ⊥)
+      → Fits schema profiles item members
       → value_of name members ≡ value → is_some value ≡ true → attribute_named item name ≡ None → ⊥
   known_member name None some fits is there unknown = true≢false (sym there)
   known_member name (Some one) some (Open item members none) is there unknown = some none
-  known_member name (Some one) some (Closed item members each required more just) is there unknown = of_known (each name one is) unknown
+  known_member name (Some one) some (Closed item members each required more just) is there unknown =
+      of_known (each name one is) unknown
     where
       of_known : {i : Item} {n : List ℕ} {v : Tree} → FitsMember schema profiles i n v → attribute_named i n ≡ None → ⊥
       of_known (Member_of i n v attr named force accepts) unknown = none_some (attribute_named i n) attr named unknown
 
-  abbrev pub IsInactive : List ℕ → Attr → Type 0
-  IsInactive detail attr = (is_in_force profiles attr ≡ false) × (attr.profile ≡ Some detail)
+  active_member : {item : Item} {name : List ℕ} {value : Tree} (attr : Attr)
+      → FitsMember schema profiles item name value
+      → attribute_named item name ≡ Some attr → is_in_force profiles attr ≡ false → ⊥
+  active_member attr (Member_of item name value own is_own force accepts) named off =
+      let same : own ≡ attr = some_is own attr (sym is_own ∙ named) in
+      true≢false (sym force ∙ ap (is_in_force profiles) same ∙ off)
 
-  active_member : {item : Item} {name : List ℕ} {value : Tree} (detail : List ℕ) → FitsMember schema profiles item name value
-      → IsSomeAnd (attribute_named item name) (IsInactive detail) → ⊥
-  active_member detail (Member_of item name value attr named force accepts) wrong =
-      true≢false (sym force ∙ (subst (λ o. IsSomeAnd o (IsInactive detail)) named wrong).0)
+  active_value : {item : Item} {members : List Member} (name : List ℕ) (value : Option Tree) (attr : Attr)
+      → Fits schema profiles item members
+      → value_of name members ≡ value → is_some value ≡ true → attribute_named item name ≡ Some attr
+      → is_in_force profiles attr ≡ false → ⊥
+  active_value name None attr fits is there named off = true≢false (sym there)
+  active_value name (Some one) attr (Open item members none) is there named off =
+      none_some (attribute_named item name) attr named (no_attribute item name none)
+  active_value name (Some one) attr (Closed item members each required more just) is there named off =
+      active_member attr (each name one is) named off
 
-  active_value : {item : Item} {members : List Member} (name : List ℕ) (value : Option Tree) (detail : List ℕ) → Fits schema profiles item members
-      → value_of name members ≡ value → is_some value ≡ true → IsSomeAnd (attribute_named item name) (IsInactive detail) → ⊥
-  active_value name None detail fits is there wrong = true≢false (sym there)
-  active_value name (Some one) detail (Open item members none) is there wrong =
-      subst (λ o. IsSomeAnd o (IsInactive detail)) (no_attribute item name none) wrong
-  active_value name (Some one) detail (Closed item members each required more just) is there wrong = active_member detail (each name one is) wrong
+  not_wanted : {item : Item} {members : List Member} (name : List ℕ) (attr : Attr) → Fits schema profiles item members
+      → value_of name members ≡ None → attribute_named item name ≡ Some attr → is_in_force profiles attr ≡ true
+      → attr.requirement ≡ Required → ⊥
+  not_wanted name attr (Open item members none) absent named force wanted =
+      none_some (attribute_named item name) attr named (no_attribute item name none)
+  not_wanted name attr (Closed item members each required more just) absent named force wanted =
+      none_there (value_of name members) (required name attr named force wanted) absent
 
-  abbrev pub IsWanted : Attr → Type 0
-  IsWanted attr = (is_in_force profiles attr ≡ true) × (attr.requirement ≡ Required)
-
-  not_wanted : {item : Item} {members : List Member} (name : List ℕ) (attr : Option Attr) → attribute_named item name ≡ attr → Fits schema profiles item members
-      → value_of name members ≡ None → IsSomeAnd attr IsWanted → ⊥
-  not_wanted name None is fits absent wrong = wrong
-  not_wanted name (Some attr) is (Open item members none) absent wrong = none_some (attribute_named item name) attr is (no_attribute item name none)
-  not_wanted name (Some attr) is (Closed item members each required more just) absent wrong =
-      none_there (value_of name members) (required name attr is wrong.0 wrong.1) absent
-
-  not_wrong_member : (object : ItemObject) (name : List ℕ) (code : Wrong) (detail : List ℕ) → Fits schema profiles object.item object.members
+  not_wrong_member : (object : ItemObject) (name : List ℕ) {code : ℕ} {detail : List ℕ}
+      → Fits schema profiles object.item object.members
       → IsWrongMember profiles object name code detail → ⊥
-  not_wrong_member object name AttributeUnknown detail fits wrong =
-      known_member name (value_of name object.members) wrong.0 fits refl wrong.1 wrong.2
-  not_wrong_member object name ProfileInactive detail fits wrong =
-      active_value name (value_of name object.members) detail fits refl wrong.0 wrong.1
-  not_wrong_member object name RequiredMissing detail fits wrong =
-      not_wanted name (attribute_named object.item name) refl fits wrong.0 wrong.1
-  not_wrong_member object name code detail fits wrong = wrong
+  not_wrong_member object name fits (Unknown some there unknown) =
+      known_member name (value_of name object.members) some fits refl there unknown
+  not_wrong_member object name fits (Inactive attr profile there named off is) =
+      active_value name (value_of name object.members) attr fits refl there named off
+  not_wrong_member object name fits (Missing attr absent named force wanted) =
+      not_wanted name attr fits absent named force wanted
 
   abbrev listed_of : List (List ℕ) → List Attr → List Attr
   listed_of names attrs = filter (λ attr. is_among attr.name names && is_in_force profiles attr) attrs
 
-  enough : {item : Item} {members : List Member} → Fits schema profiles item members → HasOneOrMore members (listed_in_force profiles item item.at_least_one)
-  enough (Open item members none) = subst (λ attrs. HasOneOrMore members (listed_of item.at_least_one attrs)) (sym none) tt
+  enough : {item : Item} {members : List Member} → Fits schema profiles item members
+      → HasOneOrMore members (listed_in_force profiles item item.at_least_one)
+  enough (Open item members none) =
+      subst (λ attrs. HasOneOrMore members (listed_of item.at_least_one attrs)) (sym none) tt
   enough (Closed item members each required more just) = more
 
-  not_more : {item : Item} {members : List Member} → Fits schema profiles item members → HasJustOne members (listed_in_force profiles item item.just_one)
+  not_more : {item : Item} {members : List Member} → Fits schema profiles item members
+      → HasJustOne members (listed_in_force profiles item item.just_one)
   not_more (Open item members none) = subst (λ attrs. HasJustOne members (listed_of item.just_one attrs)) (sym none) tt
   not_more (Closed item members each required more just) = just
 
-  not_wrong_object : (object : ItemObject) (code : Wrong) (detail : List ℕ) → Fits schema profiles object.item object.members
+  not_wrong_object : (object : ItemObject) {code : ℕ} {detail : List ℕ}
+      → Fits schema profiles object.item object.members
       → IsWrongObject profiles object code detail → ⊥
-  not_wrong_object object AtLeastOne detail fits wrong = wrong.0 (enough fits)
-  not_wrong_object object JustOne detail fits wrong = wrong.0 (not_more fits)
-  not_wrong_object object code detail fits wrong = wrong
+  not_wrong_object object fits (NoneOfThem not) = not (enough fits)
+  not_wrong_object object fits (NotJustOne not) = not (not_more fits)
 
 -- ---- nor with the event as a whole
 
 -- the text is one of the list
-named_is : (P : List ℕ → Type 0) (items : List Tree) (position : ℕ) (text : List ℕ) → AllByRecursion P (filter_map as_text items)
+named_is : (P : List ℕ → Type 0) (items : List Tree) (position : ℕ) (text : List ℕ)
+    → AllByRecursion P (filter_map as_text items)
     → option_and_then as_text (slice_get items position) ≡ Some text → P text
 named_is P [] position text all e = absurd (none_is_some text e)
 named_is P (t ∷ ts) zero text all e = first (as_text t) e all
@@ -328,46 +388,57 @@ named_is P (t ∷ ts) zero text all e = first (as_text t) e all
     first (Some x) e all = subst P (some_is x text e) all.0
 named_is P (t ∷ ts) (suc position) text all e = named_is P ts position text (later (as_text t) all) e
   where
-    later : (o : Option (List ℕ)) → AllByRecursion P (cons_option o (filter_map as_text ts)) → AllByRecursion P (filter_map as_text ts)
+    later : (o : Option (List ℕ)) → AllByRecursion P (cons_option o (filter_map as_text ts))
+        → AllByRecursion P (filter_map as_text ts)
     later None all = all
     later (Some x) all = all.1
 
 module _ (schema : SchemaParts) (event : Tree) (allowed : IsAllowed schema event) where
-  not_wrong_event : (place : List Step) (code : Wrong) (detail : List ℕ) → IsWrongEvent schema event allowed.number allowed.members place code detail → ⊥
-  not_wrong_event place NumberMismatch detail wrong = wrong.0 allowed.agrees
-  not_wrong_event place ProfileUnknown detail wrong =
-      true≢false (sym (named_is (λ p. is_profile schema p ≡ true) (profile_list event) wrong.0 detail
-      (recursion_from_All (λ p. is_profile schema p ≡ true) (named_profiles event) allowed.profiles) wrong.2) ∙ wrong.3)
-  not_wrong_event place code detail wrong = wrong
+  not_wrong_event : {place : List Step} {code : ℕ} {detail : List ℕ}
+      → IsWrongEvent schema event allowed.number allowed.members place code detail → ⊥
+  not_wrong_event (NumberMismatch activity is not) = not allowed.agrees
+  not_wrong_event (ProfileUnknown position profile is unknown) =
+      true≢false (sym (named_is (λ p. is_profile schema p ≡ true) (profile_list event) position profile
+      (recursion_from_All (λ p. is_profile schema p ≡ true) (named_profiles event) allowed.profiles) is) ∙ unknown)
 
   class_is : class_of_event schema event ≡ Some allowed.class
   class_is = ap (option_and_then (class_of schema)) allowed.object ∙ allowed.known
 
-  good_seen : (place : List Step) (here : Seen) → seen schema event place ≡ Some here → IsGoodSeen schema (named_profiles event) here
+  good_seen : (place : List Step) (here : Seen) → seen schema event place ≡ Some here
+      → IsGoodSeen schema (named_profiles event) here
   good_seen place here e =
       good_from schema (named_profiles event) place (of_class event allowed.class) here
-      (λ ms is. subst (Fits schema (named_profiles event) allowed.class) (some_is allowed.members ms (sym allowed.object ∙ is)) allowed.fits)
-      (subst (λ o. option_and_then (λ class. seen_from schema (named_profiles event) (of_class event class) place) o ≡ Some here) class_is e)
+      (λ ms is. subst (Fits schema (named_profiles event) allowed.class)
+      (some_is allowed.members ms (sym allowed.object ∙ is)) allowed.fits)
+      (subst (λ o. option_and_then (λ class. seen_from schema (named_profiles event) (of_class event class) place) o
+      ≡ Some here) class_is e)
 
-  good_item : (place : List Step) (here : Seen) (object : ItemObject) → seen schema event place ≡ Some here → object_seen schema here ≡ Some object
+  good_item : (place : List Step) (here : Seen) (object : ItemObject) → seen schema event place ≡ Some here
+      → object_seen schema here ≡ Some object
       → Fits schema (named_profiles event) object.item object.members
-  good_item place here object e is = good_object schema (named_profiles event) here.judge here.value object (good_seen place here e) is
+  good_item place here object e is =
+      good_object schema (named_profiles event) here.judge here.value object (good_seen place here e) is
 
-  nothing_wrong : {place : List Step} {code : Wrong} {detail : List ℕ} → IsViolation schema event place code detail → ⊥
+  nothing_wrong : {place : List Step} {code : ℕ} {detail : List ℕ} → IsViolation schema event place code detail → ⊥
   nothing_wrong (NoObject none) = none_is_some allowed.members (sym none ∙ allowed.object)
   nothing_wrong (NoClass members object none) =
-      none_is_some allowed.class (sym none ∙ ap (class_of schema) (some_is members allowed.members (sym object ∙ allowed.object)) ∙ allowed.known)
-  nothing_wrong (AtValue place here code detail e wrong) = not_wrong_value schema (named_profiles event) here code detail (good_seen place here e) wrong
+      none_is_some allowed.class
+      (sym none ∙ ap (class_of schema) (some_is members allowed.members (sym object ∙ allowed.object)) ∙ allowed.known)
+  nothing_wrong (AtValue place here code detail e wrong) =
+      not_wrong_value schema (named_profiles event) here (good_seen place here e) wrong
   nothing_wrong (AtMember place here object name code detail e is wrong) =
-      not_wrong_member schema (named_profiles event) object name code detail (good_item place here object e is) wrong
+      not_wrong_member schema (named_profiles event) object name (good_item place here object e is) wrong
   nothing_wrong (AtObject place here object code detail e is wrong) =
-      not_wrong_object schema (named_profiles event) object code detail (good_item place here object e is) wrong
+      not_wrong_object schema (named_profiles event) object (good_item place here object e is) wrong
   nothing_wrong (OnEvent members class number place code detail object known numbered wrong) =
       let same : members ≡ allowed.members = some_is members allowed.members (sym object ∙ allowed.object) in
-      let one : class ≡ allowed.class = some_is class allowed.class (sym known ∙ ap (class_of schema) same ∙ allowed.known) in
-      let count : number ≡ allowed.number = some_is number allowed.number (sym numbered ∙ ap (λ (c : Item). c.class_uid) one ∙ allowed.numbered) in
-      not_wrong_event place code detail
-      (subst (λ n. IsWrongEvent schema event n allowed.members place code detail) count (subst (λ ms. IsWrongEvent schema event number ms place code detail) same wrong))
+      let one : class ≡ allowed.class =
+      some_is class allowed.class (sym known ∙ ap (class_of schema) same ∙ allowed.known) in
+      let count : number ≡ allowed.number =
+      some_is number allowed.number (sym numbered ∙ ap (λ (c : Item). c.class_uid) one ∙ allowed.numbered) in
+      not_wrong_event
+      (subst (λ n. IsWrongEvent schema event n allowed.members place code detail) count
+      (subst (λ ms. IsWrongEvent schema event number ms place code detail) same wrong))
 
 pub allowed_is_faultless : AllowedIsFaultless
 allowed_is_faultless schema event place code detail allowed wrong = nothing_wrong schema event allowed wrong

@@ -13,7 +13,8 @@ use Rattle.ocsf_event_rules.proofs.FaultlessEvents.{faultless_is_allowed}
 none_listed : (v : Violation) → Contains [] v → ⊥
 none_listed v c = let lt = c.1 in absurd (omega (arith, lt))
 
-empty : (schema : SchemaParts) (event : Tree) (report : List Violation) → IsReport schema event report → IsAllowed schema event → report ≡ []
+empty : (schema : SchemaParts) (event : Tree) (report : List Violation) → IsReport schema event report
+    → IsAllowed schema event → report ≡ []
 empty schema event [] is allowed = refl
 empty schema event (v ∷ vs) is allowed =
     absurd (allowed_is_faultless schema event v.place v.code v.detail allowed ((is.listed v).0 (0, omega arith, refl)))

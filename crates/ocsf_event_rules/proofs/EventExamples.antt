@@ -16,8 +16,10 @@ use Rattle.ocsf_schema.specs.declared.records.Target.TheVariants as target
 use Rattle.ocsf_schema.specs.declared.parts.SchemaParts.{SchemaParts}
 use Rattle.ocsf_event_rules.specs.EventClass.{class_of_event}
 use Rattle.ocsf_event_rules.specs.Judged.{Judge, OfClass, OfAttribute, OfElement, Seen, ItemObject, object_seen, seen}
-use Rattle.ocsf_event_rules.specs.Wrong.{ClassUnknown, AttributeUnknown, ProfileInactive, RequiredMissing, WrongType}
-use Rattle.ocsf_event_rules.specs.Violations.{IsViolation, NoObject, NoClass, AtValue, AtMember}
+use Rattle.ocsf_event_rules.specs.Wrong.{class_unknown, attribute_unknown, profile_inactive, required_missing}
+use Rattle.ocsf_event_rules.specs.Wrong.{wrong_type}
+use Rattle.ocsf_event_rules.specs.Violations.{WrongType, Unknown, Inactive, Missing, IsViolation, NoObject, NoClass}
+use Rattle.ocsf_event_rules.specs.Violations.{AtValue, AtMember}
 use Rattle.ocsf_tree.proofs.WrittenOut.{layers}
 
 abbrev key : Side → List ℕ → Key
@@ -58,11 +60,17 @@ item = record {
   attrs = [];
 }
 
+abbrev n : Attr
+n = record (attr (codes "n") (target.Simple (codes "string_t"))) { requirement = Required }
+
 file : Item
-file = record item { key = key Object (codes "f"); attrs = record (attr (codes "n") (target.Simple (codes "string_t"))) { requirement = Required } ∷ [] }
+file = record item { key = key Object (codes "f"); attrs = n ∷ [] }
 
 fs : Attr
 fs = record (attr (codes "fs") (target.Object (codes "f"))) { is_array = true }
+
+abbrev of_profile : Attr
+of_profile = record (attr (codes "p") target.Anything) { profile = Some (codes "q") }
 
 class : Item
 class = record item {
@@ -71,7 +79,7 @@ class = record item {
   attrs =
       attr (codes "class_uid") (target.Simple (codes "integer_t"))
       ∷ fs
-      ∷ record (attr (codes "p") target.Anything) { profile = Some (codes "q") }
+      ∷ of_profile
       ∷ [];
 }
 
@@ -99,7 +107,8 @@ files : Tree
 files = tree.List (tree.Null ∷ second ∷ [])
 
 event : Tree
-event = tree.Members (member (codes "class_uid") (number 7) ∷ member (codes "fs") files ∷ member (codes "p") second ∷ [])
+event =
+    tree.Members (member (codes "class_uid") (number 7) ∷ member (codes "fs") files ∷ member (codes "p") second ∷ [])
 
 shown_judge : Judge → List ℕ
 shown_judge (OfClass class) = class.key.name
@@ -110,7 +119,8 @@ class_found : option_map (λ c. c.key.name) (class_of_event schema event) ≡ So
 unfolding event schema class fs number
 class_found = simp layers refl
 
-second_file : option_map (λ s. shown_judge s.judge) (seen schema event (Name (codes "fs") ∷ At 1 ∷ [])) ≡ Some (codes "[fs]")
+second_file : option_map (λ s. shown_judge s.judge) (seen schema event (Name (codes "fs") ∷ At 1 ∷ []))
+    ≡ Some (codes "[fs]")
 unfolding event schema shown_judge class fs number files
 second_file = simp layers refl
 
@@ -121,7 +131,9 @@ nothing_inactive = simp layers refl
 shown_object : ItemObject → List ℕ × List (List ℕ)
 shown_object o = (o.item.key.name, map (λ m. m.name) o.members)
 
-its_object : option_map shown_object (option_and_then (object_seen schema) (seen schema event (Name (codes "fs") ∷ At 1 ∷ []))) ≡ Some (codes "f", codes "s" ∷ [])
+its_object : option_map shown_object
+    (option_and_then (object_seen schema) (seen schema event (Name (codes "fs") ∷ At 1 ∷ [])))
+    ≡ Some (codes "f", codes "s" ∷ [])
 unfolding event schema shown_object class fs file number files second
 its_object = simp layers refl
 
@@ -131,31 +143,45 @@ root : Seen
 root = record { judge = OfClass class; value = event }
 
 of_class : ItemObject
-of_class = record { item = class; members = member (codes "class_uid") (number 7) ∷ member (codes "fs") files ∷ member (codes "p") second ∷ [] }
+of_class =
+    record {
+      item = class;
+      members = member (codes "class_uid") (number 7) ∷ member (codes "fs") files
+          ∷ member (codes "p") second ∷ [];
+    }
 
 of_file : ItemObject
 of_file = record { item = file; members = member (codes "s") (number 1) ∷ [] }
 
-inactive_profile : IsViolation schema event (Name (codes "p") ∷ []) ProfileInactive (codes "q")
+inactive_profile : IsViolation schema event (Name (codes "p") ∷ []) profile_inactive (codes "q")
 unfolding event schema class fs number files second root of_class
-inactive_profile = AtMember [] root of_class (codes "p") ProfileInactive (codes "q") (simp layers refl) (simp layers refl) (simp layers refl, (simp layers refl, refl))
+inactive_profile =
+    AtMember [] root of_class (codes "p") profile_inactive (codes "q") (simp layers refl) (simp layers refl)
+    (Inactive of_profile (codes "q") (simp layers refl) refl (simp layers refl) refl)
 
-null_in_a_list : IsViolation schema event (Name (codes "fs") ∷ At 0 ∷ []) WrongType (codes "object_t")
+null_in_a_list : IsViolation schema event (Name (codes "fs") ∷ At 0 ∷ []) wrong_type (codes "object_t")
 unfolding event schema class fs number files
-null_in_a_list = AtValue (Name (codes "fs") ∷ At 0 ∷ []) (record { judge = OfElement fs; value = tree.Null }) WrongType (codes "object_t") (simp layers refl) (simp layers refl, refl)
+null_in_a_list =
+    AtValue (Name (codes "fs") ∷ At 0 ∷ []) (record { judge = OfElement fs; value = tree.Null }) wrong_type
+    (codes "object_t")
+    (simp layers refl) (WrongType (codes "object_t") (simp layers refl, refl))
 
-missing_name : IsViolation schema event (Name (codes "fs") ∷ At 1 ∷ Name (codes "n") ∷ []) RequiredMissing []
+missing_name : IsViolation schema event (Name (codes "fs") ∷ At 1 ∷ Name (codes "n") ∷ []) required_missing []
 unfolding event schema class fs file number files second of_file
-missing_name = AtMember (Name (codes "fs") ∷ At 1 ∷ []) (record { judge = OfElement fs; value = second }) of_file (codes "n") RequiredMissing []
-    (simp layers refl) (simp layers refl) (refl, (refl, refl), refl)
+missing_name =
+    AtMember (Name (codes "fs") ∷ At 1 ∷ []) (record { judge = OfElement fs; value = second }) of_file (codes "n")
+    required_missing []
+    (simp layers refl) (simp layers refl) (Missing n refl refl refl refl)
 
-unknown_member : IsViolation schema event (Name (codes "fs") ∷ At 1 ∷ Name (codes "s") ∷ []) AttributeUnknown []
+unknown_member : IsViolation schema event (Name (codes "fs") ∷ At 1 ∷ Name (codes "s") ∷ []) attribute_unknown []
 unfolding event schema class fs file number files second of_file
-unknown_member = AtMember (Name (codes "fs") ∷ At 1 ∷ []) (record { judge = OfElement fs; value = second }) of_file (codes "s") AttributeUnknown []
-    (simp layers refl) (simp layers refl) (λ e. cc, simp layers refl, refl, refl)
+unknown_member =
+    AtMember (Name (codes "fs") ∷ At 1 ∷ []) (record { judge = OfElement fs; value = second }) of_file (codes "s")
+    attribute_unknown []
+    (simp layers refl) (simp layers refl) (Unknown (λ e. cc) (simp layers refl) refl)
 
-no_object : IsViolation schema (tree.List []) [] WrongType (codes "object_t")
+no_object : IsViolation schema (tree.List []) [] wrong_type (codes "object_t")
 no_object = NoObject (simp layers refl)
 
-no_class : IsViolation schema (tree.Members []) (Name (codes "class_uid") ∷ []) ClassUnknown []
+no_class : IsViolation schema (tree.Members []) (Name (codes "class_uid") ∷ []) class_unknown []
 no_class = NoClass [] (simp layers refl) refl

@@ -7,12 +7,13 @@ use Rattle.std.proofs.lemmas.Cmp.{then_total, on_total, tied_itself, nat_cmp_tot
 use Rattle.std.proofs.lemmas.List.Elements.{All-contains, Contains-append_right, Contains-append_cases}
 use Rattle.ocsf_tree.proofs.Places.{place_cmp_total}
 use Rattle.ocsf_event_rules.specs.EventLaws.{HasOneReport}
-use Rattle.ocsf_event_rules.specs.Wrong.{Violation, rank, violation_cmp}
+use Rattle.ocsf_event_rules.specs.Wrong.{Violation, violation_cmp}
 
 violation_cmp_total : IsTotalOrder violation_cmp
 violation_cmp_total =
     then_total (on_total (λ (v : Violation). v.place) place_cmp_total)
-    (then_total (on_total (λ (v : Violation). rank v.code) nat_cmp_total) (on_total (λ (v : Violation). v.detail) nat_list_cmp_total))
+    (then_total (on_total (λ (v : Violation). v.code) nat_cmp_total)
+    (on_total (λ (v : Violation). v.detail) nat_list_cmp_total))
 
 abbrev IsBefore : Violation → Violation → Type 0
 IsBefore v w = violation_cmp v w ≡ Less
@@ -53,12 +54,14 @@ none_in : (w : Violation) → Contains [] w → ⊥
 none_in w c = let lt = c.1 in absurd (omega (arith, lt))
 
 -- lists in order that have the same are one
-same_list : (vs ws : List Violation) → IsOrdered vs → IsOrdered ws → ((u : Violation) → Contains vs u → Contains ws u) → ((u : Violation) → Contains ws u → Contains vs u) → vs ≡ ws
+same_list : (vs ws : List Violation) → IsOrdered vs → IsOrdered ws → ((u : Violation) → Contains vs u → Contains ws u)
+    → ((u : Violation) → Contains ws u → Contains vs u) → vs ≡ ws
 same_list [] [] x y there back = refl
 same_list [] (w ∷ ws) x y there back = absurd (none_in w (back w (here w ws)))
 same_list (v ∷ vs) [] x y there back = absurd (none_in v (there v (here v vs)))
 same_list (v ∷ vs) (w ∷ ws) x y there back =
-    let same : v ≡ w = same_head (head_or_rest w v ws (there v (here v vs))) (head_or_rest v w vs (back w (here w ws))) in
+    let same : v ≡ w =
+    same_head (head_or_rest w v ws (there v (here v vs))) (head_or_rest v w vs (back w (here w ws))) in
     ap₂ (λ a others. a ∷ others) same
     (same_list vs ws (rest_ordered v vs x) (rest_ordered w ws y)
     (λ u c. to_rest v w vs ws x same u c (head_or_rest w u ws (there u (in_rest v u vs c))))
@@ -68,12 +71,17 @@ same_list (v ∷ vs) (w ∷ ws) x y there back =
     same_head (inl e) b = sym e
     same_head (inr a) (inl e) = e
     same_head (inr a) (inr b) =
-        absurd (not_both v w (All-contains (IsBefore v) vs w (before_rest v vs x) b) (All-contains (IsBefore w) ws v (before_rest w ws y) a))
+        absurd (not_both v w (All-contains (IsBefore v) vs w (before_rest v vs x) b)
+        (All-contains (IsBefore w) ws v (before_rest w ws y) a))
 
-    to_rest : (a b : Violation) (others bs : List Violation) → IsOrdered (a ∷ others) → a ≡ b → (u : Violation) → Contains others u → (b ≡ u) ⊎ Contains bs u → Contains bs u
+    to_rest : (a b : Violation) (others bs : List Violation) → IsOrdered (a ∷ others) → a ≡ b → (u : Violation)
+        → Contains others u → (b ≡ u) ⊎ Contains bs u → Contains bs u
     to_rest a b others bs ordered same u c (inr there) = there
     to_rest a b others bs ordered same u c (inl e) =
-        absurd (not_itself u (subst (λ t. IsBefore t u) (same ∙ e) (All-contains (IsBefore a) others u (before_rest a others ordered) c)))
+        absurd (not_itself u (subst (λ t. IsBefore t u) (same ∙ e)
+        (All-contains (IsBefore a) others u (before_rest a others ordered) c)))
 
 pub one_report : HasOneReport
-one_report schema event r s x y = same_list r s x.ordered y.ordered (λ u c. (y.listed u).1 ((x.listed u).0 c)) (λ u c. (x.listed u).1 ((y.listed u).0 c))
+one_report schema event r s x y =
+    same_list r s x.ordered y.ordered (λ u c. (y.listed u).1 ((x.listed u).0 c))
+    (λ u c. (x.listed u).1 ((y.listed u).0 c))

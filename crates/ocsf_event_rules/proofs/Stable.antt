@@ -1,5 +1,6 @@
 -- What is asked of values and objects holds where it isn't refuted.
-use Rattle.std.proofs.Common.{◌≡◌, ℕ, zero, suc, ◌≤◌, List, [], ◌∷◌, Bool, true, false, true≢false, Option, Some, None, refl, sym, ◌∙◌, ap, arith}
+use Rattle.std.proofs.Common.{◌≡◌, ℕ, zero, suc, ◌≤◌, List, [], ◌∷◌, Bool, true, false, true≢false, Option, Some, None}
+use Rattle.std.proofs.Common.{refl, sym, ◌∙◌, ap, arith}
 use Rattle.std.specs.Prelude.{T, ℤ, ◌≤ℤ◌, ◌==◌, leb, Contains, IfSome, ⊤}
 use Rattle.std.proofs.lemmas.Bool.{leb-true, le-leb}
 use Rattle.ocsf_tree.specs.declared.tree.Tree.{Tree, out-Tree}
@@ -17,7 +18,8 @@ use Rattle.ocsf_schema.specs.declared.records.Base.{Base}
 use Rattle.ocsf_schema.specs.declared.records.Base.TheVariants as base
 use Rattle.ocsf_kind.specs.Accepted.{IsSigned64, Takes, IsWithinLength, IsWithinRange, IsListed}
 use Rattle.ocsf_event_rules.specs.EventClass.{is_null}
-use Rattle.ocsf_event_rules.specs.Conditions.{IsOfBase, IsFoundIn, IsInstantIn, IsOfEnumeration, enum_key, is_key, count_present, HasOneOrMore, HasJustOne}
+use Rattle.ocsf_event_rules.specs.Conditions.{IsOfBase, IsFoundIn, IsInstantIn, IsOfEnumeration, enum_key, is_key}
+use Rattle.ocsf_event_rules.specs.Conditions.{count_present, HasOneOrMore, HasJustOne}
 
 -- what isn't refuted holds
 abbrev pub IsStable : Type 0 → Type 0
@@ -128,7 +130,8 @@ instant false x = anything
 contains_later : (v : Tree) (vs : List Tree) (value : Tree) → Contains vs value → Contains (v ∷ vs) value
 contains_later v vs value c = let lt = c.1 in (suc c.0, omega (arith, lt), c.2)
 
-contains_parts : (v : Tree) (vs : List Tree) (value : Tree) → (v ≡ value → ⊥) → Contains (v ∷ vs) value → Contains vs value
+contains_parts : (v : Tree) (vs : List Tree) (value : Tree) → (v ≡ value → ⊥) → Contains (v ∷ vs) value
+    → Contains vs value
 contains_parts v vs value other (zero, lt, e) = absurd (other e)
 contains_parts v vs value other (suc k, lt, e) = (k, omega (arith, lt), e)
 
@@ -139,7 +142,9 @@ contained (v ∷ vs) value valid h = by_test (λ n. contained vs value valid n) 
     by_test : IsStable (Contains vs value) → (b : Bool) → same (data_of v) (data_of value) ≡ b → Contains (v ∷ vs) value
     by_test rest true e = (0, omega arith, trees_by_data v value (same_is (data_of v) (data_of value) e))
     by_test rest false e =
-        let other = λ (is : v ≡ value). true≢false (sym (ap (λ t. same (data_of t) (data_of value)) is ∙ same_itself (data_of value) valid) ∙ e) in
+        let other =
+        λ (is : v ≡ value). true≢false
+        (sym (ap (λ t. same (data_of t) (data_of value)) is ∙ same_itself (data_of value) valid) ∙ e) in
         contains_later v vs value (rest (λ n. h (λ c. n (contains_parts v vs value other c))))
 
 pub listed : (values : Option (List Tree)) (value : Tree) → IsValid value → IsStable (IsListed values value)

@@ -8,7 +8,8 @@ use Rattle.ocsf_schema.specs.declared.records.Target.TheVariants as target
 use Rattle.ocsf_schema.specs.declared.parts.SchemaParts.{SchemaParts}
 use Rattle.ocsf_event_rules.specs.Profiles.{as_list, is_in_force, named_profiles}
 use Rattle.ocsf_event_rules.specs.EventClass.{as_object, value_of, item_named, kind_named, attribute_named, class_of}
-use Rattle.ocsf_event_rules.specs.Conditions.{IsOfKind, IsOfEnumeration, HasRequired, listed_in_force, HasOneOrMore, HasJustOne, DoNumbersAgree, AreProfilesKnown}
+use Rattle.ocsf_event_rules.specs.Conditions.{IsOfKind, IsOfEnumeration, HasRequired, listed_in_force, HasOneOrMore}
+use Rattle.ocsf_event_rules.specs.Conditions.{HasJustOne, DoNumbersAgree, AreProfilesKnown}
 
 module _ (schema : SchemaParts) (profiles : List (List ℕ)) where
   mutual
@@ -26,7 +27,8 @@ module _ (schema : SchemaParts) (profiles : List (List ℕ)) where
 
     pub data FitsMember : Item → List ℕ → Tree → Type 0 where
       Member_of : (item : Item) (name : List ℕ) (value : Tree) (attr : Attr)
-          → attribute_named item name ≡ Some attr → is_in_force profiles attr ≡ true → Accepts attr value → FitsMember item name value
+          → attribute_named item name ≡ Some attr → is_in_force profiles attr ≡ true → Accepts attr value
+          → FitsMember item name value
 
     -- an attribute accepts a value: a single one, or a list of such
     pub data Accepts : Attr → Tree → Type 0 where
@@ -36,10 +38,13 @@ module _ (schema : SchemaParts) (profiles : List (List ℕ)) where
 
     pub data AcceptsSingle : Attr → Tree → Type 0 where
       OfKind : (attr : Attr) (value : Tree) (name : List ℕ) → attr.target ≡ target.Simple name
-          → IfSome (kind_named schema name) (λ kind. IsOfKind kind value) → IsOfEnumeration attr.members value → AcceptsSingle attr value
+          → IfSome (kind_named schema name) (λ kind. IsOfKind kind value) → IsOfEnumeration attr.members value
+          → AcceptsSingle attr value
       OfObject : (attr : Attr) (value : Tree) (members : List Member) (name : List ℕ) → attr.target ≡ target.Object name
-          → as_object value ≡ Some members → ((item : Item) → item_named schema name ≡ Some item → Fits item members) → AcceptsSingle attr value
-      OfAnything : (attr : Attr) (value : Tree) → attr.target ≡ target.Anything → IsSome (as_object value) → AcceptsSingle attr value
+          → as_object value ≡ Some members → ((item : Item) → item_named schema name ≡ Some item → Fits item members)
+          → AcceptsSingle attr value
+      OfAnything : (attr : Attr) (value : Tree) → attr.target ≡ target.Anything → IsSome (as_object value)
+          → AcceptsSingle attr value
 
 -- an event is an object of a class that isn't hidden, fits that class, and its numbers and profiles are right
 pub record IsAllowed (schema : SchemaParts) (event : Tree) : Type 0 where

@@ -1,5 +1,6 @@
 -- What is asked of a single value, of an object, and of an event as a whole.
-use Rattle.std.specs.Prelude.{◌≡◌, ℕ, ℤ, pos, ◌+ℤ◌, ◌*◌, ◌==◌, ◌&&◌, Bool, true, false, List, [], ◌∷◌, map, filter, length, codes, Option, Some, None, is_some, is_ok, IfSome, IsSome, All, ⊤}
+use Rattle.std.specs.Prelude.{◌≡◌, ℕ, ℤ, pos, ◌+ℤ◌, ◌*◌, ◌==◌, ◌&&◌, Bool, true, false, List, [], ◌∷◌, map, filter}
+use Rattle.std.specs.Prelude.{length, codes, Option, Some, None, is_some, is_ok, IfSome, IsSome, All, ⊤}
 use Rattle.std.specs.Fmt.{signed_decimal}
 use Rattle.jiff.specs.Words.{parse_timestamp}
 use Rattle.ocsf_tree.specs.declared.tree.Tree.{Tree, out-Tree}
@@ -78,7 +79,8 @@ is_present members attr = is_some (value_of attr.name members)
 -- each required attribute that is in force is there
 abbrev pub HasRequired : List (List ℕ) → Item → List Member → Type 0
 HasRequired profiles item members =
-    (name : List ℕ) (attr : Attr) → attribute_named item name ≡ Some attr → is_in_force profiles attr ≡ true → attr.requirement ≡ Required
+    (name : List ℕ) (attr : Attr) → attribute_named item name ≡ Some attr → is_in_force profiles attr ≡ true
+    → attr.requirement ≡ Required
     → IsSome (value_of name members)
 
 -- the listed attributes that are in force, each once

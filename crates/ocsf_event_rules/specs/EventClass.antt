@@ -1,5 +1,6 @@
 -- The class of an event, and what a schema has under a name.
-use Rattle.std.specs.Prelude.{ℕ, ℤ, pos, negsuc, ◌==◌, Bool, false, List, find, codes, Option, Some, None, if◌then◌else◌}
+use Rattle.std.specs.Prelude.{ℕ, ℤ, pos, negsuc, ◌==◌, Bool, false, List, find, codes, Option, Some, None}
+use Rattle.std.specs.Prelude.{if◌then◌else◌}
 use Rattle.std.specs.Option.{option_map_or, option_and_then}
 use Rattle.ocsf_tree.specs.declared.tree.Tree.{Tree, out-Tree}
 use Rattle.ocsf_tree.specs.declared.tree.Tree.TheOpen.{Tree-F}
@@ -43,7 +44,8 @@ whole_of name members = option_and_then as_whole (value_of name members)
 -- ---- what a schema has
 
 abbrev pub item_named : SchemaParts → List ℕ → Option Item
-item_named schema name = at_name (λ item. key_text item.key) (key_text (record { side = Object; name = name })) schema.pieces
+item_named schema name =
+    at_name (λ item. key_text item.key) (key_text (record { side = Object; name = name })) schema.pieces
 
 abbrev pub kind_named : SchemaParts → List ℕ → Option Kind
 kind_named schema name = at_name (λ kind. kind.name) name schema.kinds

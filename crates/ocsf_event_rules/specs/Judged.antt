@@ -50,7 +50,8 @@ abbrev pub with_item : Item → List Member → ItemObject
 with_item item members = record { item = item; members = members }
 
 abbrev pub object_seen : SchemaParts → Seen → Option ItemObject
-object_seen schema here = option_and_then (λ item. option_map (with_item item) (as_object here.value)) (item_of schema here.judge)
+object_seen schema here =
+    option_and_then (λ item. option_map (with_item item) (as_object here.value)) (item_of schema here.judge)
 
 -- ---- down the event
 
@@ -62,15 +63,19 @@ of_element attr value = record { judge = OfElement attr; value = value }
 
 -- the attribute of that name, if it is in force
 abbrev pub attribute_in_force : List (List ℕ) → Item → List ℕ → Option Attr
-attribute_in_force profiles item name = option_and_then (λ attr. if is_in_force profiles attr then Some attr else None) (attribute_named item name)
+attribute_in_force profiles item name =
+    option_and_then (λ attr. if is_in_force profiles attr then Some attr else None) (attribute_named item name)
 
 abbrev pub member_seen : List (List ℕ) → List ℕ → ItemObject → Option Seen
 member_seen profiles name object =
-    option_and_then (λ attr. option_map (of_attribute attr) (value_of name object.members)) (attribute_in_force profiles object.item name)
+    option_and_then (λ attr. option_map (of_attribute attr) (value_of name object.members))
+    (attribute_in_force profiles object.item name)
 
 abbrev pub element_of : ℕ → Attr → Tree → Option Seen
 element_of position attr value =
-    if attr.is_array then option_map (of_element attr) (option_and_then (λ values. slice_get values position) (as_list value)) else None
+    if attr.is_array
+    then option_map (of_element attr) (option_and_then (λ values. slice_get values position) (as_list value))
+    else None
 
 abbrev pub element_seen : ℕ → Seen → Option Seen
 element_seen position here = elim here.judge as (λ judge. Option Seen) [
@@ -87,7 +92,8 @@ seen_at schema profiles (At position) here = element_seen position here
 -- and so on along a place
 abbrev pub seen_from : SchemaParts → List (List ℕ) → Seen → List Step → Option Seen
 seen_from schema profiles here [] = Some here
-seen_from schema profiles here (step ∷ place) = option_and_then (λ next. seen_from schema profiles next place) (seen_at schema profiles step here)
+seen_from schema profiles here (step ∷ place) =
+    option_and_then (λ next. seen_from schema profiles next place) (seen_at schema profiles step here)
 
 abbrev pub of_class : Tree → Item → Seen
 of_class event class = record { judge = OfClass class; value = event }
@@ -95,4 +101,5 @@ of_class event class = record { judge = OfClass class; value = event }
 -- what is seen at a place of an event: nothing where its class isn't known, and nothing below what isn't judged
 abbrev pub seen : SchemaParts → Tree → List Step → Option Seen
 seen schema event place =
-    option_and_then (λ class. seen_from schema (named_profiles event) (of_class event class) place) (class_of_event schema event)
+    option_and_then (λ class. seen_from schema (named_profiles event) (of_class event class) place)
+    (class_of_event schema event)

@@ -15,7 +15,10 @@ as_text value = text_of (out-Tree value)
 
 -- the list that an event has at `metadata.profiles`
 abbrev pub profile_list : Tree → List Tree
-profile_list event = unwrap_or (option_and_then as_list (option_and_then (member_at (codes "profiles")) (member_at (codes "metadata") event))) []
+profile_list event =
+    unwrap_or
+    (option_and_then as_list (option_and_then (member_at (codes "profiles")) (member_at (codes "metadata") event)))
+    []
 
 -- the profiles of an event: the texts in that list
 abbrev pub named_profiles : Tree → List (List ℕ)

@@ -1,5 +1,6 @@
--- What is wrong with an event, each code by itself, and the report that lists just that.
-use Rattle.std.specs.Prelude.{◌≡◌, ◌≢◌, ◌↔◌, ℕ, ℤ, Bool, true, false, List, [], ◌∷◌, ◌++◌, codes, decimal, slice_get, Contains, AllPairs, Option, Some, None, unwrap_or, IsSome, IsSomeAnd}
+-- What is wrong with an event, and the report that lists just that.
+use Rattle.std.specs.Prelude.{◌≡◌, ◌≢◌, ◌↔◌, ℕ, ℤ, Bool, true, false, List, [], ◌∷◌, ◌++◌, codes, decimal, slice_get}
+use Rattle.std.specs.Prelude.{Contains, AllPairs, Option, Some, None, unwrap_or, IsSome, IsSomeAnd}
 use Rattle.std.specs.Fmt.{signed_decimal}
 use Rattle.std.specs.List.{join_with_byte}
 use Rattle.std.specs.Option.{option_map, option_and_then}
@@ -20,15 +21,21 @@ use Rattle.ocsf_kind.specs.Accepted.{Meets}
 use Rattle.ocsf_kind.specs.declared.accepted.Which.TheVariants.{MaxLen, Range, Values}
 use Rattle.ocsf_event_rules.specs.Profiles.{as_list, as_text, profile_list, named_profiles, is_in_force, is_profile}
 use Rattle.ocsf_event_rules.specs.EventClass.{as_object, value_of, whole_of, kind_named, attribute_named, class_of}
-use Rattle.ocsf_event_rules.specs.Conditions.{IsOfBase, HasPattern, IsInstant, IsOfEnumeration, enum_key, listed_in_force, HasOneOrMore, HasJustOne, expected_type, DoNumbersAgree}
-use Rattle.ocsf_event_rules.specs.Judged.{Judge, OfClass, OfAttribute, OfElement, Seen, ItemObject, single_attr, object_seen, seen}
-use Rattle.ocsf_event_rules.specs.Wrong.{Wrong, ClassUnknown, AttributeUnknown, ProfileInactive, RequiredMissing, WrongType, TooLong, OutOfRange, Pattern, NotAnInstant, NotAValue, EnumUnknown, AtLeastOne, JustOne, NumberMismatch, ProfileUnknown, Violation, violation_cmp}
+use Rattle.ocsf_event_rules.specs.Conditions.{IsOfBase, HasPattern, IsInstant, IsOfEnumeration, enum_key}
+use Rattle.ocsf_event_rules.specs.Conditions.{listed_in_force, HasOneOrMore, HasJustOne, expected_type, DoNumbersAgree}
+use Rattle.ocsf_event_rules.specs.Judged.{Judge, OfClass, OfAttribute, OfElement, Seen, ItemObject, single_attr}
+use Rattle.ocsf_event_rules.specs.Judged.{object_seen, seen}
+use Rattle.ocsf_event_rules.specs.Wrong.{class_unknown, attribute_unknown, profile_inactive, required_missing}
+use Rattle.ocsf_event_rules.specs.Wrong.{wrong_type, too_long, out_of_range, pattern, not_an_instant, not_a_value}
+use Rattle.ocsf_event_rules.specs.Wrong.{enum_unknown, at_least_one, just_one, number_mismatch, profile_unknown}
+use Rattle.ocsf_event_rules.specs.Wrong.{Violation, violation_cmp}
 
 -- ---- of a value
 
 -- a single value isn't of the base, or isn't an object where one is wanted
 abbrev pub IsWrongSingle : SchemaParts → Target → Tree → List ℕ → Type 0
-IsWrongSingle schema (target.Simple name) value detail = IsSomeAnd (kind_named schema name) (λ kind. IsOfBase kind.base value → ⊥) × (detail ≡ name)
+IsWrongSingle schema (target.Simple name) value detail =
+    IsSomeAnd (kind_named schema name) (λ kind. IsOfBase kind.base value → ⊥) × (detail ≡ name)
 IsWrongSingle schema (target.Object name) value detail = (as_object value ≡ None) × (detail ≡ codes "object_t")
 IsWrongSingle schema target.Anything value detail = (as_object value ≡ None) × (detail ≡ codes "object_t")
 
@@ -45,58 +52,63 @@ IsWrongType schema (OfElement attr) value detail = IsWrongSingle schema attr.tar
 abbrev pub span_text : Span → List ℕ
 span_text span = signed_decimal span.low ++ codes ".." ++ signed_decimal span.high
 
--- the value doesn't meet that part of a limit
-abbrev pub IsLimitBroken : Limit → Tree → Wrong → List ℕ → Type 0
-IsLimitBroken limit value TooLong detail = (Meets MaxLen limit value → ⊥) × (option_map decimal limit.max_len ≡ Some detail)
-IsLimitBroken limit value OutOfRange detail = (Meets Range limit value → ⊥) × (option_map span_text limit.range ≡ Some detail)
-IsLimitBroken limit value Pattern detail = (HasPattern limit value → ⊥) × (detail ≡ limit.type_name)
-IsLimitBroken limit value NotAnInstant detail = (IsInstant limit value → ⊥) × (detail ≡ limit.type_name)
-IsLimitBroken limit value NotAValue detail = (Meets Values limit value → ⊥) × (detail ≡ limit.type_name)
-IsLimitBroken limit value code detail = ⊥
+-- the value doesn't meet a part of a limit
+pub data IsLimitBroken (limit : Limit) (value : Tree) : ℕ → List ℕ → Type 0 where
+  TooLong : (most : ℕ) → limit.max_len ≡ Some most → (Meets MaxLen limit value → ⊥)
+      → IsLimitBroken limit value too_long (decimal most)
+  OutOfRange : (span : Span) → limit.range ≡ Some span → (Meets Range limit value → ⊥)
+      → IsLimitBroken limit value out_of_range (span_text span)
+  Pattern : (HasPattern limit value → ⊥) → IsLimitBroken limit value pattern limit.type_name
+  NotAnInstant : (IsInstant limit value → ⊥) → IsLimitBroken limit value not_an_instant limit.type_name
+  NotAValue : (Meets Values limit value → ⊥) → IsLimitBroken limit value not_a_value limit.type_name
 
 -- a limit of the type is broken
-abbrev pub BreaksLimit : SchemaParts → Target → Tree → Wrong → List ℕ → Type 0
+abbrev pub BreaksLimit : SchemaParts → Target → Tree → ℕ → List ℕ → Type 0
 BreaksLimit schema (target.Simple name) value code detail =
-    IsSomeAnd (kind_named schema name) (λ kind. IsOfBase kind.base value × ((limit : Limit) × Contains kind.limits limit × IsLimitBroken limit value code detail))
+    IsSomeAnd (kind_named schema name) (λ kind.
+    IsOfBase kind.base value × ((limit : Limit) × Contains kind.limits limit × IsLimitBroken limit value code detail))
 BreaksLimit schema other value code detail = ⊥
 
 -- a whole number or a text is no key of the enumeration
 abbrev pub IsNoKey : SchemaParts → Attr → Tree → List ℕ → Type 0
 IsNoKey schema attr value detail =
-    (IsOfEnumeration attr.members value → ⊥) × (enum_key value ≡ Some detail) × ((wrong : List ℕ) → IsWrongSingle schema attr.target value wrong → ⊥)
+    (IsOfEnumeration attr.members value → ⊥)
+    × (enum_key value ≡ Some detail)
+    × ((wrong : List ℕ) → IsWrongSingle schema attr.target value wrong → ⊥)
 
-abbrev pub IsWrongValue : SchemaParts → Seen → Wrong → List ℕ → Type 0
-IsWrongValue schema here WrongType detail = IsWrongType schema here.judge here.value detail
-IsWrongValue schema here EnumUnknown detail = IsSomeAnd (single_attr here.judge) (λ attr. IsNoKey schema attr here.value detail)
-IsWrongValue schema here code detail = IsSomeAnd (single_attr here.judge) (λ attr. BreaksLimit schema attr.target here.value code detail)
+-- the value isn't of the type, breaks a limit of it, or is no key of the enumeration
+pub data IsWrongValue (schema : SchemaParts) (here : Seen) : ℕ → List ℕ → Type 0 where
+  WrongType : (detail : List ℕ) → IsWrongType schema here.judge here.value detail
+      → IsWrongValue schema here wrong_type detail
+  BrokenLimit : (code : ℕ) (detail : List ℕ)
+      → IsSomeAnd (single_attr here.judge) (λ attr. BreaksLimit schema attr.target here.value code detail)
+      → IsWrongValue schema here code detail
+  EnumUnknown : (detail : List ℕ)
+      → IsSomeAnd (single_attr here.judge) (λ attr. IsNoKey schema attr here.value detail)
+      → IsWrongValue schema here enum_unknown detail
 
 -- ---- of an object
 
 -- a member that is no attribute or isn't in force, and an absent one that is wanted
-abbrev pub IsWrongMember : List (List ℕ) → ItemObject → List ℕ → Wrong → List ℕ → Type 0
-IsWrongMember profiles object name AttributeUnknown detail =
-    (object.item.attrs ≢ []) × IsSome (value_of name object.members) × (attribute_named object.item name ≡ None) × (detail ≡ [])
-IsWrongMember profiles object name ProfileInactive detail =
-    IsSome (value_of name object.members)
-    × IsSomeAnd (attribute_named object.item name) (λ attr. (is_in_force profiles attr ≡ false) × (attr.profile ≡ Some detail))
-IsWrongMember profiles object name RequiredMissing detail =
-    (value_of name object.members ≡ None)
-    × IsSomeAnd (attribute_named object.item name) (λ attr. (is_in_force profiles attr ≡ true) × (attr.requirement ≡ Required))
-    × (detail ≡ [])
-IsWrongMember profiles object name code detail = ⊥
+pub data IsWrongMember (profiles : List (List ℕ)) (object : ItemObject) (name : List ℕ) : ℕ → List ℕ → Type 0 where
+  Unknown : object.item.attrs ≢ [] → IsSome (value_of name object.members) → attribute_named object.item name ≡ None
+      → IsWrongMember profiles object name attribute_unknown []
+  Inactive : (attr : Attr) (profile : List ℕ) → IsSome (value_of name object.members)
+      → attribute_named object.item name ≡ Some attr → is_in_force profiles attr ≡ false → attr.profile ≡ Some profile
+      → IsWrongMember profiles object name profile_inactive profile
+  Missing : (attr : Attr) → value_of name object.members ≡ None
+      → attribute_named object.item name ≡ Some attr → is_in_force profiles attr ≡ true → attr.requirement ≡ Required
+      → IsWrongMember profiles object name required_missing []
 
 abbrev pub comma : ℕ
 comma = 44
 
 -- too few or too many of some attributes are there; the list is told as it is written
-abbrev pub IsWrongObject : List (List ℕ) → ItemObject → Wrong → List ℕ → Type 0
-IsWrongObject profiles object AtLeastOne detail =
-    (HasOneOrMore object.members (listed_in_force profiles object.item object.item.at_least_one) → ⊥)
-    × (detail ≡ join_with_byte comma object.item.at_least_one)
-IsWrongObject profiles object JustOne detail =
-    (HasJustOne object.members (listed_in_force profiles object.item object.item.just_one) → ⊥)
-    × (detail ≡ join_with_byte comma object.item.just_one)
-IsWrongObject profiles object code detail = ⊥
+pub data IsWrongObject (profiles : List (List ℕ)) (object : ItemObject) : ℕ → List ℕ → Type 0 where
+  NoneOfThem : (HasOneOrMore object.members (listed_in_force profiles object.item object.item.at_least_one) → ⊥)
+      → IsWrongObject profiles object at_least_one (join_with_byte comma object.item.at_least_one)
+  NotJustOne : (HasJustOne object.members (listed_in_force profiles object.item object.item.just_one) → ⊥)
+      → IsWrongObject profiles object just_one (join_with_byte comma object.item.just_one)
 
 -- ---- of the event
 
@@ -107,34 +119,37 @@ abbrev pub profile_place : ℕ → List Step
 profile_place position = Name (codes "metadata") ∷ Name (codes "profiles") ∷ At position ∷ []
 
 -- of an event of a class with that number
-abbrev pub IsWrongEvent : SchemaParts → Tree → ℕ → List Member → List Step → Wrong → List ℕ → Type 0
-IsWrongEvent schema event class members place NumberMismatch detail =
-    (DoNumbersAgree class members → ⊥)
-    × (place ≡ Name (codes "type_uid") ∷ [])
-    × (option_map (λ activity. signed_decimal (expected_type class activity)) (whole_of (codes "activity_id") members) ≡ Some detail)
-IsWrongEvent schema event class members place ProfileUnknown detail =
-    (position : ℕ) × (place ≡ profile_place position)
-    × (option_and_then as_text (slice_get (profile_list event) position) ≡ Some detail) × (is_profile schema detail ≡ false)
-IsWrongEvent schema event class members place code detail = ⊥
+pub data IsWrongEvent (schema : SchemaParts) (event : Tree) (class : ℕ) (members : List Member)
+    : List Step → ℕ → List ℕ → Type 0 where
+  NumberMismatch : (activity : ℤ) → whole_of (codes "activity_id") members ≡ Some activity
+      → (DoNumbersAgree class members → ⊥)
+      → IsWrongEvent schema event class members (Name (codes "type_uid") ∷ []) number_mismatch
+      (signed_decimal (expected_type class activity))
+  ProfileUnknown : (position : ℕ) (profile : List ℕ)
+      → option_and_then as_text (slice_get (profile_list event) position) ≡ Some profile
+      → is_profile schema profile ≡ false
+      → IsWrongEvent schema event class members (profile_place position) profile_unknown profile
 
 -- ---- all
 
 -- that is wrong at the place of the event
-pub data IsViolation (schema : SchemaParts) (event : Tree) : List Step → Wrong → List ℕ → Type 0 where
+pub data IsViolation (schema : SchemaParts) (event : Tree) : List Step → ℕ → List ℕ → Type 0 where
   -- the event is no object
-  NoObject : as_object event ≡ None → IsViolation schema event [] WrongType (codes "object_t")
+  NoObject : as_object event ≡ None → IsViolation schema event [] wrong_type (codes "object_t")
   -- it is one of no class
   NoClass : (members : List Member) → as_object event ≡ Some members → class_of schema members ≡ None
-      → IsViolation schema event (Name (codes "class_uid") ∷ []) ClassUnknown (whole_text (whole_of (codes "class_uid") members))
-  AtValue : (place : List Step) (here : Seen) (code : Wrong) (detail : List ℕ) → seen schema event place ≡ Some here
+      → IsViolation schema event (Name (codes "class_uid") ∷ []) class_unknown
+      (whole_text (whole_of (codes "class_uid") members))
+  AtValue : (place : List Step) (here : Seen) (code : ℕ) (detail : List ℕ) → seen schema event place ≡ Some here
       → IsWrongValue schema here code detail → IsViolation schema event place code detail
-  AtMember : (place : List Step) (here : Seen) (object : ItemObject) (name : List ℕ) (code : Wrong) (detail : List ℕ)
+  AtMember : (place : List Step) (here : Seen) (object : ItemObject) (name : List ℕ) (code : ℕ) (detail : List ℕ)
       → seen schema event place ≡ Some here → object_seen schema here ≡ Some object
-      → IsWrongMember (named_profiles event) object name code detail → IsViolation schema event (place ++ Name name ∷ []) code detail
-  AtObject : (place : List Step) (here : Seen) (object : ItemObject) (code : Wrong) (detail : List ℕ)
+      → IsWrongMember (named_profiles event) object name code detail
+      → IsViolation schema event (place ++ Name name ∷ []) code detail
+  AtObject : (place : List Step) (here : Seen) (object : ItemObject) (code : ℕ) (detail : List ℕ)
       → seen schema event place ≡ Some here → object_seen schema here ≡ Some object
       → IsWrongObject (named_profiles event) object code detail → IsViolation schema event place code detail
-  OnEvent : (members : List Member) (class : Item) (number : ℕ) (place : List Step) (code : Wrong) (detail : List ℕ)
+  OnEvent : (members : List Member) (class : Item) (number : ℕ) (place : List Step) (code : ℕ) (detail : List ℕ)
       → as_object event ≡ Some members → class_of schema members ≡ Some class → class.class_uid ≡ Some number
       → IsWrongEvent schema event number members place code detail → IsViolation schema event place code detail
 

@@ -1,5 +1,6 @@
 -- Two bundles that show the same at some cells.
-use Rattle.std.proofs.Common.{◌≡◌, ℕ, zero, suc, List, [], ◌∷◌, ◌++◌, map, true, false, cond, Option, Some, None, unwrap_or, if◌then◌else◌, refl, sym, ◌∙◌, ap, subst, reverse, arith}
+use Rattle.std.proofs.Common.{◌≡◌, ℕ, zero, suc, List, [], ◌∷◌, ◌++◌, map, true, false, cond, Option, Some, None}
+use Rattle.std.proofs.Common.{unwrap_or, if◌then◌else◌, refl, sym, ◌∙◌, ap, subst, reverse}
 use Rattle.std.specs.Prelude.{flat_map, take}
 use Rattle.std.specs.List.{filter_map, AllByRecursion}
 use Rattle.std.specs.Option.{option_and_then}
@@ -9,7 +10,8 @@ use Rattle.ocsf_raw.specs.declared.files.ExtFile.{ExtFile}
 use Rattle.ocsf_raw.specs.declared.files.ProfileFile.{ProfileFile}
 use Rattle.ocsf_tree.specs.declared.key.Key.{Key}
 use Rattle.ocsf_bundle.specs.Shown.{Shown, Item, Patch, Profile, Include, Dict, Kind, Category, Other, Ext}
-use Rattle.ocsf_bundle.specs.Looks.{Looks, look, is_there, PatchOf, Included, AsProfile, AsInclude, DictOf, CategoryOf, BuiltIn, Listed, show_patch, show_included, show_entry, show_category}
+use Rattle.ocsf_bundle.specs.Looks.{Looks, look, is_there, PatchOf, Included, AsProfile, AsInclude, DictOf, CategoryOf}
+use Rattle.ocsf_bundle.specs.Looks.{BuiltIn, Listed, show_patch, show_included, show_entry, show_category}
 use Rattle.ocsf_bundle.specs.declared.cells.Cell.{Cell}
 use Rattle.ocsf_bundle.specs.declared.cells.Cell.TheVariants as cell
 use Rattle.ocsf_rules.specs.Names.{is_shown, found, tried}
@@ -32,22 +34,28 @@ module _ {X : Type 0} (P : X → Type 0) where
 
   pub all_reverse : (xs : List X) → AllByRecursion P xs → AllByRecursion P (reverse xs)
   all_reverse [] all = tt
-  all_reverse (x ∷ xs) all = subst (AllByRecursion P) (sym (reverse-append (x ∷ []) xs)) (both (reverse xs) (x ∷ []) (all_reverse xs all.1) (all.0, tt))
+  all_reverse (x ∷ xs) all =
+      subst (AllByRecursion P) (sym (reverse-append (x ∷ []) xs))
+      (both (reverse xs) (x ∷ []) (all_reverse xs all.1) (all.0, tt))
 
   pub all_take : (n : ℕ) (xs : List X) → AllByRecursion P xs → AllByRecursion P (take n xs)
   all_take n [] all = elim n as (λ m. AllByRecursion P (take m [])) [ zero ↦ tt | suc m ↦ tt ]
-  all_take n (x ∷ xs) all = elim n as (λ m. AllByRecursion P (take m (x ∷ xs))) [ zero ↦ tt | suc m ↦ (all.0, all_take m xs all.1) ]
+  all_take n (x ∷ xs) all =
+      elim n as (λ m. AllByRecursion P (take m (x ∷ xs))) [ zero ↦ tt | suc m ↦ (all.0, all_take m xs all.1) ]
 
   -- a fact at all cells of a walk, as a fact at each step
-  pub each : {Y : Type 0} (f : Y → List X) (ys : List Y) → AllByRecursion P (flat_map f ys) → AllByRecursion (λ y. AllByRecursion P (f y)) ys
+  pub each : {Y : Type 0} (f : Y → List X) (ys : List Y) → AllByRecursion P (flat_map f ys)
+      → AllByRecursion (λ y. AllByRecursion P (f y)) ys
   each f [] all = tt
   each f (y ∷ ys) all = (left (f y) (flat_map f ys) all, each f ys (right (f y) (flat_map f ys) all))
 
-pub weaker : {X : Type 0} (P Q : X → Type 0) → ((x : X) → P x → Q x) → (xs : List X) → AllByRecursion P xs → AllByRecursion Q xs
+pub weaker : {X : Type 0} (P Q : X → Type 0) → ((x : X) → P x → Q x) → (xs : List X) → AllByRecursion P xs
+    → AllByRecursion Q xs
 weaker P Q to [] all = tt
 weaker P Q to (x ∷ xs) all = (to x all.0, weaker P Q to xs all.1)
 
-pub same_flat_map : {X Y : Type 0} (f g : X → List Y) (xs : List X) → AllByRecursion (λ x. f x ≡ g x) xs → flat_map f xs ≡ flat_map g xs
+pub same_flat_map : {X Y : Type 0} (f g : X → List Y) (xs : List X) → AllByRecursion (λ x. f x ≡ g x) xs
+    → flat_map f xs ≡ flat_map g xs
 same_flat_map f g [] all = refl
 same_flat_map f g (x ∷ xs) all = λ i. all.0 i ++ same_flat_map f g xs all.1 i
 
@@ -138,17 +146,23 @@ module _ (b c : Looks) where
   pub same_profiles : (p : List ℕ) → look b (cell.Profile p) ≡ look c (cell.Profile p) → b.profiles p ≡ c.profiles p
   same_profiles p e = sym (as_profile-map (b.profiles p)) ∙ ap (filter_map as_profile) e ∙ as_profile-map (c.profiles p)
 
-  pub same_includes : (ext path : List ℕ) → look b (cell.Include ext path) ≡ look c (cell.Include ext path) → b.includes ext path ≡ c.includes ext path
-  same_includes ext path e = sym (as_included-map (b.includes ext path)) ∙ ap (filter_map as_included) e ∙ as_included-map (c.includes ext path)
+  pub same_includes : (ext path : List ℕ) → look b (cell.Include ext path) ≡ look c (cell.Include ext path)
+      → b.includes ext path ≡ c.includes ext path
+  same_includes ext path e =
+      sym (as_included-map (b.includes ext path)) ∙ ap (filter_map as_included) e
+      ∙ as_included-map (c.includes ext path)
 
   pub same_dict : (name : List ℕ) → look b (cell.Dict name) ≡ look c (cell.Dict name) → b.dict name ≡ c.dict name
   same_dict name e = sym (as_entry-map (b.dict name)) ∙ ap (filter_map as_entry) e ∙ as_entry-map (c.dict name)
 
-  pub same_listed : (t : List ℕ) → look b (cell.Kind t) ≡ look c (cell.Kind t) → is_there (b.kinds t) ≡ is_there (c.kinds t)
+  pub same_listed : (t : List ℕ) → look b (cell.Kind t) ≡ look c (cell.Kind t)
+      → is_there (b.kinds t) ≡ is_there (c.kinds t)
   same_listed t e = sym (there-map Kind (b.kinds t)) ∙ ap is_there e ∙ there-map Kind (c.kinds t)
 
-  pub same_categories : (key : List ℕ) → look b (cell.Category key) ≡ look c (cell.Category key) → b.categories key ≡ c.categories key
-  same_categories key e = sym (as_category-map (b.categories key)) ∙ ap (filter_map as_category) e ∙ as_category-map (c.categories key)
+  pub same_categories : (key : List ℕ) → look b (cell.Category key) ≡ look c (cell.Category key)
+      → b.categories key ≡ c.categories key
+  same_categories key e =
+      sym (as_category-map (b.categories key)) ∙ ap (filter_map as_category) e ∙ as_category-map (c.categories key)
 
   pub same_exts : (name : List ℕ) → look b (cell.Ext name) ≡ look c (cell.Ext name) → b.exts name ≡ c.exts name
   same_exts name e = sym (as_ext-map (b.exts name)) ∙ ap (filter_map as_ext) e ∙ as_ext-map (c.exts name)
@@ -158,7 +172,8 @@ module _ (b c : Looks) where
   pub same_found : (cells : List Cell) → AgreeAt b c (tried b cells) → found b cells ≡ found c cells
   same_found [] agree = refl
   same_found (x ∷ cells) agree =
-      elim (is_shown b x) as (λ t. is_shown b x ≡ t → AgreeAt b c (if t then x ∷ [] else x ∷ tried b cells) → cond t (Some x) (found b cells) ≡ cond (is_shown c x) (Some x) (found c cells)) [
+      elim (is_shown b x) as (λ t. is_shown b x ≡ t → AgreeAt b c (if t then x ∷ [] else x ∷ tried b cells)
+      → cond t (Some x) (found b cells) ≡ cond (is_shown c x) (Some x) (found c cells)) [
         | true ↦ λ t a. ap (λ h. cond h (Some x) (found c cells)) (sym t ∙ ap is_there a.0)
         | false ↦ λ t a. same_found cells a.1 ∙ ap (λ h. cond h (Some x) (found c cells)) (sym t ∙ ap is_there a.0)
       ] refl agree
@@ -166,21 +181,27 @@ module _ (b c : Looks) where
   pub same_tried : (cells : List Cell) → AgreeAt b c (tried b cells) → tried b cells ≡ tried c cells
   same_tried [] agree = refl
   same_tried (x ∷ cells) agree =
-      elim (is_shown b x) as (λ t. is_shown b x ≡ t → AgreeAt b c (if t then x ∷ [] else x ∷ tried b cells) → (if t then x ∷ [] else x ∷ tried b cells) ≡ (if is_shown c x then x ∷ [] else x ∷ tried c cells)) [
+      elim (is_shown b x) as (λ t. is_shown b x ≡ t → AgreeAt b c (if t then x ∷ [] else x ∷ tried b cells)
+      → (if t then x ∷ [] else x ∷ tried b cells) ≡ (if is_shown c x then x ∷ [] else x ∷ tried c cells)) [
         | true ↦ λ t a. ap (λ h. if h then x ∷ [] else x ∷ tried c cells) (sym t ∙ ap is_there a.0)
-        | false ↦ λ t a. ap (λ ys. x ∷ ys) (same_tried cells a.1) ∙ ap (λ h. if h then x ∷ [] else x ∷ tried c cells) (sym t ∙ ap is_there a.0)
+        | false ↦
+            λ t a. ap (λ ys. x ∷ ys) (same_tried cells a.1)
+            ∙ ap (λ h. if h then x ∷ [] else x ∷ tried c cells) (sym t ∙ ap is_there a.0)
       ] refl agree
 
-  at_found : (cells : List Cell) → AgreeAt b c (tried b cells) → (x : Cell) → found b cells ≡ Some x → look b x ≡ look c x
+  at_found : (cells : List Cell) → AgreeAt b c (tried b cells) → (x : Cell) → found b cells ≡ Some x
+      → look b x ≡ look c x
   at_found [] agree x e = cc
   at_found (y ∷ cells) agree x e =
-      elim (is_shown b y) as (λ t. AgreeAt b c (if t then y ∷ [] else y ∷ tried b cells) → cond t (Some y) (found b cells) ≡ Some x → look b x ≡ look c x) [
+      elim (is_shown b y) as (λ t. AgreeAt b c (if t then y ∷ [] else y ∷ tried b cells)
+      → cond t (Some y) (found b cells) ≡ Some x → look b x ≡ look c x) [
         | true ↦ λ a f. subst (λ z. look b z ≡ look c z) (ap (λ o. unwrap_or o y) f) a.0
         | false ↦ λ a f. at_found cells a.1 x f
       ] agree e
 
   -- and whatever is made of it
-  pub same_from_found : {X : Type 0} (f g : Cell → Option X) → ((x : Cell) → look b x ≡ look c x → f x ≡ g x) → (cells : List Cell) → AgreeAt b c (tried b cells)
+  pub same_from_found : {X : Type 0} (f g : Cell → Option X) → ((x : Cell) → look b x ≡ look c x → f x ≡ g x)
+      → (cells : List Cell) → AgreeAt b c (tried b cells)
       → option_and_then f (found b cells) ≡ option_and_then g (found c cells)
   same_from_found f g same cells agree =
       elim (found b cells) as (λ o. found b cells ≡ o → option_and_then f o ≡ option_and_then g o) [

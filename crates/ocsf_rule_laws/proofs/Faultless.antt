@@ -1,5 +1,5 @@
 -- What a bundle without a fault hasn't: a fault of its types, and one of its schema.
-use Rattle.std.proofs.Common.{◌≡◌, List, [], ◌∷◌, ◌++◌, Option, Some, None, refl, sym, ap, ◌∙◌, subst}
+use Rattle.std.proofs.Common.{◌≡◌, List, [], ◌∷◌, ◌++◌, Option, Some, None, refl, subst}
 use Rattle.std.specs.Prelude.{All, filter_map, flat_map}
 use Rattle.std.specs.Option.{option_or}
 use Rattle.std.specs.List.{cons_option}
@@ -55,7 +55,8 @@ each_gives_none f (x ∷ xs) e =
 pub each_gives_nil : {X Y : Type 0} (f : X → List Y) (xs : List X) → flat_map f xs ≡ [] → All (λ x. f x ≡ []) xs
 each_gives_nil f [] e = All-nil (λ x. f x ≡ [])
 each_gives_nil f (x ∷ xs) e =
-    All-cons (λ x. f x ≡ []) x xs (nil_first (f x) (flat_map f xs) e) (each_gives_nil f xs (nil_second (f x) (flat_map f xs) e))
+    All-cons (λ x. f x ≡ []) x xs (nil_first (f x) (flat_map f xs) e)
+    (each_gives_nil f xs (nil_second (f x) (flat_map f xs) e))
 
 -- ---- a bundle without a fault
 
@@ -74,8 +75,10 @@ module _ (bundle : Stored) (sound : IsFaultless bundle) where
   no_type_faults =
       let files = least_fault (file_faults bundle.files bundle.enabled active_of_it) in
       let types = type_faults looks_of_it.kinds active_of_it in
-      let own = or_first (own_fault bundle.files bundle.enabled) (least_of_groups (fault_groups looks_of_it listing_of_it)) sound in
-      each_gives_none (type_fault looks_of_it.kinds) (listed_types active_of_it) (no_fault types (or_second files (least_fault types) own))
+      let behind = least_of_groups (fault_groups looks_of_it listing_of_it) in
+      let own = or_first (own_fault bundle.files bundle.enabled) behind sound in
+      each_gives_none (type_fault looks_of_it.kinds) (listed_types active_of_it)
+      (no_fault types (or_second files (least_fault types) own))
 
   no_schema_faults : schema_faults looks_of_it listing_of_it ≡ []
   unfolding bundle_fault
@@ -85,13 +88,17 @@ module _ (bundle : Stored) (sound : IsFaultless bundle) where
       let layers = least_fault (flat_map (layers_faults looks_of_it) items) in
       let owns = least_fault (flat_map (own_faults looks_of_it) items) in
       let schema = least_fault (schema_faults looks_of_it listing_of_it) in
-      let groups = or_second (own_fault bundle.files bundle.enabled) (option_or chains (option_or layers (option_or owns (option_or schema None)))) sound in
+      let groups =
+      or_second (own_fault bundle.files bundle.enabled)
+      (option_or chains (option_or layers (option_or owns (option_or schema None)))) sound in
       let behind_chains = or_second chains (option_or layers (option_or owns (option_or schema None))) groups in
       let behind_layers = or_second layers (option_or owns (option_or schema None)) behind_chains in
-      no_fault (schema_faults looks_of_it listing_of_it) (or_first schema None (or_second owns (option_or schema None) behind_layers))
+      no_fault (schema_faults looks_of_it listing_of_it)
+      (or_first schema None (or_second owns (option_or schema None) behind_layers))
 
   pub no_clash : All (λ k. uid_clash looks_of_it listing_of_it.items k ≡ []) listing_of_it.items
   unfolding schema_faults
   no_clash =
       each_gives_nil (uid_clash looks_of_it listing_of_it.items) listing_of_it.items
-      (nil_first (flat_map (uid_clash looks_of_it listing_of_it.items) listing_of_it.items) (too_large (printed_schema looks_of_it listing_of_it)) no_schema_faults)
+      (nil_first (flat_map (uid_clash looks_of_it listing_of_it.items) listing_of_it.items)
+      (too_large (printed_schema looks_of_it listing_of_it)) no_schema_faults)

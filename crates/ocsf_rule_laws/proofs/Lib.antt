@@ -18,3 +18,4 @@ pub mod TypesAgree
 pub mod Faultless
 pub mod Closed
 pub mod ClassNumbers
+pub mod ReadPatterns

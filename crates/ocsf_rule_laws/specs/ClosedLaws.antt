@@ -1,6 +1,7 @@
--- A compilation is closed: what an item of it names is in it. The statements of the laws in src/closed_laws.rt, each of all
--- bundles.
-use Rattle.std.specs.Prelude.{◌≡◌, ◌≢◌, ℕ, true, List, [], map, Option, Some, None, Result, Ok, Err, All, IfSome, is_some, ⊤}
+-- A compilation is closed: what an item of it names is in it. The statements of the laws in src/closed_laws.rt,
+-- each of all bundles.
+use Rattle.std.specs.Prelude.{◌≡◌, ◌≢◌, ℕ, true, List, [], map, Option, Some, None, Result, Ok, Err, All, IfSome}
+use Rattle.std.specs.Prelude.{is_some, ⊤}
 use Rattle.ocsf_tree.specs.ByName.{at_name}
 use Rattle.ocsf_tree.specs.declared.fault.Fault.{Fault}
 use Rattle.ocsf_tree.specs.declared.fault.Code.TheVariants as code
@@ -40,7 +41,9 @@ TypesAgree = (bundle : Stored) (name : List ℕ)
 
 -- where nothing is wrong, the schema has the kind of each base type and each listed type, and no other
 abbrev pub HasEveryKind : Type 0
-HasEveryKind = (bundle : Stored) → IsFaultless bundle → map (λ kind. kind.name) (compilation bundle).kinds ≡ data_types (listing bundle)
+HasEveryKind =
+    (bundle : Stored) → IsFaultless bundle
+    → map (λ kind. kind.name) (compilation bundle).kinds ≡ data_types (listing bundle)
 
 -- ---- targets
 
@@ -63,4 +66,5 @@ AreNumbersShown = (bundle : Stored) → All (λ item. class_number item ≡ item
 -- where nothing is wrong, each class that has a number is found by it
 abbrev pub AreFoundByNumber : Type 0
 AreFoundByNumber = (bundle : Stored) → IsFaultless bundle
-    → All (λ item. IfSome item.class_uid (λ number. class_at number (compilation bundle).pieces ≡ Some item)) (compilation bundle).pieces
+    → All (λ item. IfSome item.class_uid (λ number. class_at number (compilation bundle).pieces ≡ Some item))
+    (compilation bundle).pieces

@@ -21,11 +21,16 @@ HasFirstFault = (wanted : Wanted) (t : Tree) → IsValid t → (found : Option F
 
 -- a tree says an edit, whose trees are valid, or has a first place at which it is none
 abbrev pub SaysOrFails : Type 0
-SaysOrFails = (t : Tree) → IsValid t → (said : Result Edit RawError) × IsEdit t said × (said ≢ Err error.Memory) × IfOk said (λ edit. All IsValidChange edit.changes)
+SaysOrFails =
+    (t : Tree) → IsValid t
+    → (said : Result Edit RawError) × IsEdit t said × (said ≢ Err error.Memory)
+    × IfOk said (λ edit. All IsValidChange edit.changes)
 
 -- changes lead to files, or one of them is the first with a fault
 abbrev pub LeadsOrFails : Type 0
-LeadsOrFails = (old : Stored) (changes : List Change) → All IsValidChange changes → (result : Result Stored RawError) × IsAfter old changes result × (result ≢ Err error.Memory)
+LeadsOrFails =
+    (old : Stored) (changes : List Change) → All IsValidChange changes
+    → (result : Result Stored RawError) × IsAfter old changes result × (result ≢ Err error.Memory)
 
 abbrev pub HasVerdict : Type 0
 HasVerdict = (bundle : Stored) → (v : Option Fault) × IsVerdict bundle v

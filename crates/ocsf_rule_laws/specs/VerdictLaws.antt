@@ -13,8 +13,11 @@ use Rattle.ocsf_rules.specs.Verdict.{least_of_groups, fault_groups, types_of, Ar
 -- the least fault of what is compiled is the least of the items' least faults, else that of the schema
 abbrev pub LeastIsOfItems : Type 0
 LeastIsOfItems = (b : Looks) (l : Listing)
-    → least_of_groups (fault_groups b l) ≡ option_or (least_fault (filter_map (item_fault b) l.items)) (least_fault (schema_faults b l))
+    → least_of_groups (fault_groups b l)
+    ≡ option_or (least_fault (filter_map (item_fault b) l.items)) (least_fault (schema_faults b l))
 
 -- where each pattern is good or bad a bundle has one verdict
 abbrev pub HasOneVerdict : Type 0
-HasOneVerdict = (bundle : Stored) (v w : Option Fault) → AreDecided (types_of bundle) → IsVerdict bundle v → IsVerdict bundle w → v ≡ w
+HasOneVerdict =
+    (bundle : Stored) (v w : Option Fault) → AreDecided (types_of bundle) → IsVerdict bundle v → IsVerdict bundle w
+    → v ≡ w

@@ -1,11 +1,12 @@
-//! What holds of the rules of compiling, whatever program compiles: equal looks give equal items, the least fault is of the
-//! items, a bundle has one verdict, and every tree, edit and bundle comes to something. The functions do nothing: each
-//! contract is a law.
+//! What holds of the rules of compiling, whatever program compiles: equal looks give equal items, the least fault is of
+//! the items, a bundle has one verdict, the patterns of a clean one are read, and every tree, edit and bundle comes to
+//! something. The functions do nothing: each contract is a law.
 #![tactic(auto)]
 
 mod closed_laws;
 mod existence_laws;
 mod look_laws;
+mod pattern_laws;
 mod verdict_laws;
 
 pub use closed_laws::{
@@ -20,4 +21,5 @@ pub use look_laws::{
     same_looks_give_the_same_attribute, same_looks_give_the_same_category,
     same_looks_give_the_same_chain, same_looks_give_the_same_item, same_looks_give_the_same_layers,
 };
+pub use pattern_laws::a_clean_bundle_has_read_patterns;
 pub use verdict_laws::{a_bundle_has_one_verdict, least_fault_is_of_items};

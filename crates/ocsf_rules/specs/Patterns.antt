@@ -1,9 +1,9 @@
 -- The patterns of types, by what `regex` reads.
-use Rattle.std.specs.Prelude.{◌≡◌, ℕ, ◌<◌, List, chars, Bool, false, Option, Some, None, is_some, IsSome, IsSomeAnd}
-use Rattle.regex.specs.Patterns.{Re, find_str, default_config}
+use Rattle.std.specs.Prelude.{◌≡◌, ℕ, ◌<◌, List, chars, None, All, IfSome, IsSome, IsSomeAnd}
+use Rattle.regex.specs.Patterns.{default_config}
 use Rattle.regex.specs.Failures.{IsPattern}
-use Rattle.regex_syntax.specs.Grammar.{Names, read}
-use Rattle.regex_syntax.specs.Brackets.{Nested}
+use Rattle.regex_syntax.specs.Grammar.{read}
+use Rattle.ocsf_schema.specs.declared.parts.SchemaParts.{SchemaParts}
 
 -- `regex` has a reading of the text, however deep it nests
 abbrev pub IsRead : List ℕ → Type 0
@@ -20,3 +20,7 @@ IsGood text = IsPattern default_config text
 -- `regex` doesn't read the text; what is read and nests too deep is neither good nor bad
 abbrev pub IsBad : List ℕ → Type 0
 IsBad text = read default_config (chars text) ≡ None
+
+-- `regex` reads every pattern of the schema: in each of its kinds, that of each limit that has one
+abbrev pub HasReadPatterns : SchemaParts → Type 0
+HasReadPatterns schema = All (λ kind. All (λ limit. IfSome limit.pattern IsRead) kind.limits) schema.kinds
