@@ -1,5 +1,6 @@
 -- The files and the enabled extensions after an edit, and the fault of an edit.
-use Rattle.std.specs.Prelude.{◌≡◌, ℕ, ◌<◌, List, [], ◌∷◌, ◌++◌, length, take, map, slice_index_or, IsSome, ⊤, Option, Some, None, unwrap_or, Result, Ok, Err, if◌then◌else◌}
+use Rattle.std.specs.Prelude.{◌≡◌, ℕ, ◌<◌, List, [], ◌∷◌, ◌++◌, length, take, map, slice_index_or, IsSome, ⊤, Option}
+use Rattle.std.specs.Prelude.{Some, None, unwrap_or, Result, Ok, Err, if◌then◌else◌}
 use Rattle.std.specs.Option.{option_map, option_or}
 use Rattle.std.specs.List.{filter_map}
 use Rattle.std.specs.Str.{bytes_eq}
@@ -71,7 +72,8 @@ module _ {X : Type 0} (name : X → List ℕ) (said : Change → Option (Option 
 
   -- all that stands after the changes, in byte order
   abbrev pub all_after : List X → List Change → List X
-  all_after old changes = filter_map (stands_after old changes) (first_of_each (λ q. q) (map name old ++ map subject_of changes))
+  all_after old changes =
+      filter_map (stands_after old changes) (first_of_each (λ q. q) (map name old ++ map subject_of changes))
 
 abbrev pub file_after : List StoredFile → List Change → List ℕ → Option StoredFile
 file_after = stands_after stored_path file_said
@@ -101,7 +103,8 @@ IsChangeFine before _ = ⊤
 
 -- nothing is wrong with the first `n` changes
 abbrev pub AreFine : List StoredFile → List Change → ℕ → Type 0
-AreFine files changes n = (k : ℕ) (d : Change) → k < n → IsChangeFine (file_after files (take k changes)) (slice_index_or changes k d)
+AreFine files changes n =
+    (k : ℕ) (d : Change) → k < n → IsChangeFine (file_after files (take k changes)) (slice_index_or changes k d)
 
 -- the fault of the first change that has one
 pub record IsFirstFault (files : List StoredFile) (changes : List Change) (fault : Fault) : Type 0 where
@@ -112,7 +115,9 @@ pub record IsFirstFault (files : List StoredFile) (changes : List Change) (fault
 
 -- what is made of files and enabled names by an edit
 abbrev pub IsAfter : Stored → List Change → Result Stored RawError → Type 0
-IsAfter old changes (Ok new) = AreFine old.files changes (length changes) × (new.files ≡ files_after old.files changes) × (new.enabled ≡ enabled_after old.enabled changes)
+IsAfter old changes (Ok new) =
+    AreFine old.files changes (length changes) × (new.files ≡ files_after old.files changes)
+    × (new.enabled ≡ enabled_after old.enabled changes)
 IsAfter old changes (Err (error.Fault fault)) = IsFirstFault old.files changes fault
 IsAfter old changes (Err error.Memory) = ⊤
 

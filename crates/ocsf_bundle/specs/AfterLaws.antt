@@ -11,7 +11,9 @@ use Rattle.ocsf_bundle.specs.Stored.{Stored}
 
 -- a tree has one outcome other than want of memory: the edit that it says, or a fault
 abbrev pub HasOneEdit : Type 0
-HasOneEdit = (tree : Tree) (a b : Result Edit RawError) → IsEdit tree a → IsEdit tree b → a ≢ Err error.Memory → b ≢ Err error.Memory → a ≡ b
+HasOneEdit =
+    (tree : Tree) (a b : Result Edit RawError) → IsEdit tree a → IsEdit tree b → a ≢ Err error.Memory
+    → b ≢ Err error.Memory → a ≡ b
 
 -- and so have changes of a bundle: the bundle after them, or a fault
 abbrev pub HasOneAfter : Type 0

@@ -1,5 +1,8 @@
--- What is wrong with the files as a whole: their number, their keys and numbers, their patches, and the types of their dictionaries.
-use Rattle.std.specs.Prelude.{ℕ, zero, suc, ◌+◌, ◌*◌, ◌==◌, ◌&&◌, ◌||◌, not, nat_lt, Bool, false, List, [], ◌∷◌, ◌++◌, length, map, flat_map, codes, decimal, Option, Some, None, unwrap_or, is_some, if◌then◌else◌}
+-- What is wrong with the files as a whole: their number, their keys and numbers, their patches, and the types of their
+-- dictionaries.
+use Rattle.std.specs.Prelude.{ℕ, zero, suc, ◌+◌, ◌*◌, ◌==◌, ◌&&◌, ◌||◌, not, nat_lt, Bool, false, List, [], ◌∷◌, ◌++◌}
+use Rattle.std.specs.Prelude.{length, map, flat_map, codes, decimal, Option, Some, None, unwrap_or, is_some}
+use Rattle.std.specs.Prelude.{if◌then◌else◌}
 use Rattle.std.specs.Option.{option_map_or, option_and_then, option_or}
 use Rattle.std.specs.List.{filter_map, list_any, sum_by}
 use Rattle.std.specs.Str.{bytes_eq}
@@ -22,7 +25,8 @@ use Rattle.ocsf_bundle.specs.declared.stored.StoredFile.{StoredFile}
 use Rattle.ocsf_bundle.specs.declared.stored.ActiveFile.{ActiveFile}
 use Rattle.ocsf_bundle.specs.declared.numbers.Numbered.{Numbered}
 use Rattle.ocsf_bundle.specs.Active.{active_files, extension_uid}
-use Rattle.ocsf_bundle.specs.Keys.{key_of, patched, giving, keys_given, key_given, profile_given, extension_given, active_keys}
+use Rattle.ocsf_bundle.specs.Keys.{key_of, patched, giving, keys_given, key_given, profile_given, extension_given}
+use Rattle.ocsf_bundle.specs.Keys.{active_keys}
 use Rattle.ocsf_raw.specs.Names.{has_slash}
 use Rattle.ocsf_bundle.specs.Looks.{is_there}
 use Rattle.ocsf_bundle.specs.FilesLook.{item_of, categories_said, types_said, extension_file_of, looks}
@@ -66,7 +70,8 @@ limits_passed files enabled items = filter_map (λ passed. passed) (
 
 -- an enabled name of which no file is that of the extension
 abbrev pub extension_unknown : List ActiveFile → List ℕ → Option Fault
-extension_unknown active name = fault_if (not (is_there (giving extension_given name active))) (fault code.ExtensionUnknown name [])
+extension_unknown active name =
+    fault_if (not (is_there (giving extension_given name active))) (fault code.ExtensionUnknown name [])
 
 abbrev pub unknown_extensions : List (List ℕ) → List ActiveFile → List Fault
 unknown_extensions enabled active = filter_map (extension_unknown active) enabled
@@ -125,7 +130,8 @@ is_other category = bytes_eq category.name (codes "other")
 
 -- with the built-in one, where no file gives it
 abbrev pub with_other : List Numbered → List Numbered
-with_other categories = if list_any is_other categories then categories else categories ++ numbered (codes "other") 0 ∷ []
+with_other categories =
+    if list_any is_other categories then categories else categories ++ numbered (codes "other") 0 ∷ []
 
 abbrev pub uids_taken : List ActiveFile → List Fault
 uids_taken active =
@@ -151,10 +157,12 @@ patches_nothing given active file = option_map_or (λ name. not (given file.side
 
 abbrev pub patch_at : IsGiven → ActiveFile → ItemFile → List ℕ → Option Fault
 patch_at given active file parent =
-    fault_if (patches_elsewhere active file parent || patches_nothing given active file) (fault code.PatchTarget active.file.path parent)
+    fault_if (patches_elsewhere active file parent || patches_nothing given active file)
+    (fault code.PatchTarget active.file.path parent)
 
 abbrev pub patch_fault : IsGiven → ActiveFile → Option Fault
-patch_fault given active = option_and_then (λ file. option_and_then (patch_at given active file) file.parent) (item_of active)
+patch_fault given active =
+    option_and_then (λ file. option_and_then (patch_at given active file) file.parent) (item_of active)
 
 abbrev pub patch_faults : List ActiveFile → List Fault
 patch_faults active = filter_map (patch_fault (is_given active)) active
@@ -192,7 +200,8 @@ type_subject name = labelled (codes "type") name
 -- a way that comes to a name which isn't listed, or which it would move on from
 abbrev pub way_fault : Kinds → List ℕ → List ℕ → Fault
 way_fault kinds name last =
-    if is_there (kinds last) then fault code.TypeCycle (type_subject name) [] else fault code.TypeUnknown (type_subject name) last
+    if is_there (kinds last) then fault code.TypeCycle (type_subject name) []
+    else fault code.TypeUnknown (type_subject name) last
 
 -- a type that reaches no base type within these moves
 abbrev pub type_fault_at : Kinds → List ℕ → List ℕ → Option Fault
@@ -226,4 +235,5 @@ type_faults kinds active = filter_map (type_fault kinds) (listed_types active)
 abbrev pub own_fault : List StoredFile → List (List ℕ) → Option Fault
 own_fault files enabled =
     let active = active_files files enabled in
-    option_or (least_fault (file_faults files enabled active)) (least_fault (type_faults (looks files enabled).kinds active))
+    option_or (least_fault (file_faults files enabled active))
+    (least_fault (type_faults (looks files enabled).kinds active))

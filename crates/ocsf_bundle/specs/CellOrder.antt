@@ -25,7 +25,8 @@ cell_cmp (cell.Item j) (cell.Item k) = text_cmp (key_text j) (key_text k)
 cell_cmp (cell.Exists j) (cell.Exists k) = text_cmp (key_text j) (key_text k)
 cell_cmp (cell.Patches j) (cell.Patches k) = text_cmp (key_text j) (key_text k)
 cell_cmp (cell.Profile p) (cell.Profile q) = text_cmp p q
-cell_cmp (cell.Include from path) (cell.Include other_from other_path) = ordering_then (text_cmp from other_from) (text_cmp path other_path)
+cell_cmp (cell.Include from path) (cell.Include other_from other_path) =
+    ordering_then (text_cmp from other_from) (text_cmp path other_path)
 cell_cmp (cell.Dict name) (cell.Dict other) = text_cmp name other
 cell_cmp (cell.Kind name) (cell.Kind other) = text_cmp name other
 cell_cmp (cell.Category c) (cell.Category d) = text_cmp c d

@@ -15,7 +15,8 @@ use Rattle.ocsf_raw.specs.declared.files.ItemFile.{ItemFile}
 use Rattle.ocsf_raw.specs.declared.files.ProfileFile.{ProfileFile}
 use Rattle.ocsf_bundle.specs.declared.stored.StoredFile.{StoredFile}
 use Rattle.ocsf_bundle.specs.declared.stored.ActiveFile.{ActiveFile}
-use Rattle.ocsf_bundle.specs.Active.{active_files, in_layers, extension_of, extension_name, extension_uid, extension_said}
+use Rattle.ocsf_bundle.specs.Active.{active_files, in_layers, extension_of, extension_name, extension_uid}
+use Rattle.ocsf_bundle.specs.Active.{extension_said}
 use Rattle.ocsf_bundle.specs.Keys.{giving, key_given, patch_given, profile_given, include_given, extension_given}
 use Rattle.ocsf_bundle.specs.Looks.{Looks, PatchOf, Included, AsProfile, AsInclude, DictOf, CategoryOf, BuiltIn, Listed}
 
@@ -73,14 +74,16 @@ kind_of name active = at_name (λ entry. entry.name) name (types_said active.fil
 
 -- the name of a key `e/name` of that extension
 abbrev pub name_in : ExtFile → List ℕ → Option (List ℕ)
-name_in ext key = if has_slash key && bytes_eq (before_first is_slash key) ext.name then Some (after_first is_slash key) else None
+name_in ext key =
+    if has_slash key && bytes_eq (before_first is_slash key) ext.name then Some (after_first is_slash key) else None
 
 -- the name that a key has where the file stands
 abbrev pub local_name : ActiveFile → List ℕ → Option (List ℕ)
 local_name active key = option_map_or (λ ext. name_in ext key) (extension_of active) (Some key)
 
 abbrev pub category_named : ActiveFile → List ℕ → Option CategoryOf
-category_named active name = option_map (Listed (extension_uid active)) (at_name (λ entry. entry.name) name (categories_said active.file.raw))
+category_named active name =
+    option_map (Listed (extension_uid active)) (at_name (λ entry. entry.name) name (categories_said active.file.raw))
 
 abbrev pub category_of : List ℕ → ActiveFile → Option CategoryOf
 category_of key active = option_and_then (category_named active) (local_name active key)

@@ -8,7 +8,8 @@ use Rattle.ocsf_bundle.specs.declared.keys.GroupBy.{GroupBy}
 use Rattle.ocsf_bundle.specs.declared.keys.GroupBy.TheVariants as by
 use Rattle.ocsf_bundle.specs.declared.groups.Group.{Group}
 use Rattle.ocsf_bundle.specs.declared.stored.ActiveFile.{ActiveFile}
-use Rattle.ocsf_bundle.specs.Keys.{giving, keys_given, key_given, patch_given, profile_given, include_given, extension_given}
+use Rattle.ocsf_bundle.specs.Keys.{giving, keys_given, key_given, patch_given, profile_given, include_given}
+use Rattle.ocsf_bundle.specs.Keys.{extension_given}
 
 abbrev pub group_name : Group → List ℕ
 group_name group = group.name

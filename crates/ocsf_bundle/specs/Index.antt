@@ -40,7 +40,8 @@ abbrev pub group_keys : Side → List Group → List Key
 group_keys s groups = map (group_key s) groups
 
 abbrev pub side_groups : (Side → ActiveFile → Option (List ℕ)) → List ActiveFile → Sides
-side_groups key files = record { classes = groups_of (key side.Class) files; objects = groups_of (key side.Object) files }
+side_groups key files =
+    record { classes = groups_of (key side.Class) files; objects = groups_of (key side.Object) files }
 
 abbrev pub groups_by_side : Side → Sides → List Group
 groups_by_side side.Class sides = sides.classes

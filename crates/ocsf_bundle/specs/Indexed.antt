@@ -1,4 +1,5 @@
--- What a bundle keeps to: its files stand by path, its extensions by name, what the files say is in order, and its index is that of
+-- What a bundle keeps to: its files stand by path, its extensions by name, what the files say is in order, and its
+-- index is that of
 -- the files that count.
 use Rattle.std.specs.Prelude.{◌≡◌, ℕ, List}
 use Rattle.ocsf_tree.specs.ByName.{IsByName}

@@ -1,5 +1,6 @@
 -- The keys that files give.
-use Rattle.std.specs.Prelude.{ℕ, ◌&&◌, not, List, ◌∷◌, ◌++◌, Bool, true, false, if◌then◌else◌, Option, Some, None, is_some, map, filter}
+use Rattle.std.specs.Prelude.{ℕ, ◌&&◌, not, List, ◌∷◌, ◌++◌, Bool, true, false, if◌then◌else◌, Option, Some, None}
+use Rattle.std.specs.Prelude.{is_some, map, filter}
 use Rattle.std.specs.Option.{option_and_then, option_map, option_map_or}
 use Rattle.std.specs.List.{filter_map}
 use Rattle.std.specs.Str.{bytes_eq}
@@ -26,7 +27,8 @@ has_no_other_name file name = option_map_or (bytes_eq name) file.name true
 -- the core item that the file patches: a file of an extension that extends it under no other name
 abbrev pub patched : ActiveFile → ItemFile → Option (List ℕ)
 patched active file =
-    option_and_then (λ parent. if is_some active.ext && (not (has_slash parent) && has_no_other_name file parent) then Some parent else None) file.parent
+    option_and_then (λ parent. if is_some active.ext && (not (has_slash parent) && has_no_other_name file parent)
+    then Some parent else None) file.parent
 
 -- the key of an item that the file gives
 abbrev pub item_key : ActiveFile → ItemFile → Option (List ℕ)

@@ -12,4 +12,6 @@ use Rattle.ocsf_bundle.specs.FilesLook.{looks_of}
 -- the active keys stand strictly by their texts, and are just those of which there is an item
 pub record AreKeysOfItems (files : List ActiveFile) : Type 0 where
   pub ordered : IsByName key_text (active_keys files)
-  pub present : (key : Key) → at_name key_text (key_text key) (active_keys files) ≡ (if is_there ((looks_of files (in_layers files)).items key) then Some key else None)
+  pub present : (key : Key)
+      → at_name key_text (key_text key) (active_keys files)
+      ≡ (if is_there ((looks_of files (in_layers files)).items key) then Some key else None)

@@ -51,7 +51,8 @@ in_byte_order names = first_of_each (λ name. name) names
 
 -- that of the file of core, else empty
 abbrev pub version_in : List StoredFile → List ℕ
-version_in files = unwrap_or (option_and_then (λ file. version_said file.raw) (at_name stored_path (codes "version.json") files)) []
+version_in files =
+    unwrap_or (option_and_then (λ file. version_said file.raw) (at_name stored_path (codes "version.json") files)) []
 
 -- of these files, those that count, and these enabled extensions
 abbrev pub listing_of : List StoredFile → List ActiveFile → List (List ℕ) → Listing

@@ -20,7 +20,8 @@ use Rattle.ocsf_bundle.specs.Looks.{is_there}
 use Rattle.ocsf_bundle.specs.FilesLook.{kind_of}
 use Rattle.ocsf_bundle.specs.Groups.{group_at}
 use Rattle.ocsf_bundle.specs.Index.{groups_by_side}
-use Rattle.ocsf_bundle.specs.BundleFaults.{fault, fault_if, second_of, IsGiven, Kinds, limits_passed, uids_taken, patch_fault, type_faults}
+use Rattle.ocsf_bundle.specs.BundleFaults.{fault, fault_if, second_of, IsGiven, Kinds, limits_passed, uids_taken}
+use Rattle.ocsf_bundle.specs.BundleFaults.{patch_fault, type_faults}
 
 -- the least so far, and what may be one fault more
 abbrev pub lesser_of : Option Fault → Option Fault → Option Fault

@@ -4,7 +4,9 @@ ghost use Rattle.std.specs.Option.{option_copied};
 ghost use Rattle.ocsf_tree.specs.Among.{is_among};
 ghost use Rattle.ocsf_tree.specs.ByName.{IsByName};
 ghost use Rattle.ocsf_bundle.specs.Stored.{stored_path};
-ghost use Rattle.ocsf_bundle.specs.Active.{is_of_extension, extension_folder, path_below, extension_path, is_enabled, extension_said, extension_in, active_file, active_files, extension_of, extension_name, extension_uid, in_layers};
+ghost use Rattle.ocsf_bundle.specs.Active.{is_of_extension, extension_folder, path_below, extension_path, is_enabled};
+ghost use Rattle.ocsf_bundle.specs.Active.{extension_said, extension_in, active_file, active_files, extension_of};
+ghost use Rattle.ocsf_bundle.specs.Active.{extension_name, extension_uid, in_layers};
 
 use crate::stored::{ActiveFile, StoredFile};
 use ocsf_raw::{ExtFile, RawFile, below, folder};

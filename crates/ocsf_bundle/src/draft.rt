@@ -5,7 +5,8 @@ ghost use Rattle.ocsf_tree.specs.ByName.{IsByName, text_cmp};
 ghost use Rattle.ocsf_tree.specs.Valid.{IsValid};
 ghost use Rattle.ocsf_bundle.specs.Stored.{stored_path, AreFilesSound, AreValuesSound};
 ghost use Rattle.ocsf_bundle.specs.Edits.{IsValidChange};
-ghost use Rattle.ocsf_bundle.specs.After.{said_of, file_said, name_said, enabled_after, IsChangeOutcome, IsFilesOutcome};
+ghost use Rattle.ocsf_bundle.specs.After.{said_of, file_said, name_said, enabled_after, IsChangeOutcome};
+ghost use Rattle.ocsf_bundle.specs.After.{IsFilesOutcome};
 
 use crate::edit::Change;
 use crate::named_map::{map_of, put_item, take_item, values_in};
@@ -23,7 +24,8 @@ fn put_file(
 ) -> Result<(), RawError>
     requires { IsValid tree.now }
     ensures outcome { IsChangeOutcome (get text_cmp files.old) (Change.Put path.now tree.now) result }
-    ensures after { OnOk result ((q : List ℕ) → get text_cmp files.new q ≡ unwrap_or (said_of stored_path file_said q (Change.Put path.now tree.now)) (get text_cmp files.old q)) }
+    ensures after { OnOk result ((q : List ℕ) → get text_cmp files.new q
+        ≡ unwrap_or (said_of stored_path file_said q (Change.Put path.now tree.now)) (get text_cmp files.old q)) }
     ensures ordered { OnOk result (AreValuesSound files.old → AreValuesSound files.new) }
 {
     let file = Shared::new(alloc, StoredFile::of(alloc, path, tree)?)?;
@@ -37,7 +39,8 @@ fn remove_file(
     path: &Text,
 ) -> Result<(), RawError>
     ensures outcome { IsChangeOutcome (get text_cmp files.old) (Change.Remove path.now) result }
-    ensures after { OnOk result ((q : List ℕ) → get text_cmp files.new q ≡ unwrap_or (said_of stored_path file_said q (Change.Remove path.now)) (get text_cmp files.old q)) }
+    ensures after { OnOk result ((q : List ℕ) → get text_cmp files.new q
+        ≡ unwrap_or (said_of stored_path file_said q (Change.Remove path.now)) (get text_cmp files.old q)) }
     ensures ordered { OnOk result (AreValuesSound files.old → AreValuesSound files.new) }
 {
     if take_item(files, path) {
@@ -57,7 +60,8 @@ fn change_file(
 ) -> Result<(), RawError>
     requires { IsValidChange change.now }
     ensures outcome { IsChangeOutcome (get text_cmp files.old) change.now result }
-    ensures after { OnOk result ((q : List ℕ) → get text_cmp files.new q ≡ unwrap_or (said_of stored_path file_said q change.now) (get text_cmp files.old q)) }
+    ensures after { OnOk result ((q : List ℕ) → get text_cmp files.new q
+        ≡ unwrap_or (said_of stored_path file_said q change.now) (get text_cmp files.old q)) }
     ensures ordered { OnOk result (AreValuesSound files.old → AreValuesSound files.new) }
 {
     match change {
@@ -89,7 +93,8 @@ pub fn files_after(
 }
 
 fn change_enabled(enabled: &mut BTreeMap<Text, Text>, change: &Change) -> Result<(), AllocError>
-    ensures { OnOk result ((q : List ℕ) → get text_cmp enabled.new q ≡ unwrap_or (said_of (λ name. name) name_said q change.now) (get text_cmp enabled.old q)) }
+    ensures { OnOk result ((q : List ℕ) → get text_cmp enabled.new q
+        ≡ unwrap_or (said_of (λ name. name) name_said q change.now) (get text_cmp enabled.old q)) }
 {
     match change {
         Change::Enable { name } => put_item(enabled, name.copy()?, name.copy()?),

@@ -3,7 +3,8 @@ ghost use Rattle.std.specs.Prelude.{◌≡◌, ◌++◌, [], IfOk, OnOk};
 ghost use Rattle.ocsf_bundle.specs.Active.{in_layers};
 ghost use Rattle.ocsf_bundle.specs.Groups.{given_by, groups_of};
 ghost use Rattle.ocsf_bundle.specs.Keys.{active_keys};
-ghost use Rattle.ocsf_bundle.specs.Index.{is_dictionary, is_categories, dictionaries, category_files, group_keys, index_of, side_groups};
+ghost use Rattle.ocsf_bundle.specs.Index.{is_dictionary, is_categories, dictionaries, category_files, group_keys};
+ghost use Rattle.ocsf_bundle.specs.Index.{index_of, side_groups};
 
 use crate::active::in_layers;
 use crate::groups::{Group, groups_of};
@@ -134,7 +135,8 @@ fn patch_groups(alloc: Global, layered: &[ActiveFile]) -> Result<Sides, AllocErr
 }
 
 fn keys_of(alloc: Global, items: &Sides) -> Result<Row<Key>, AllocError>
-    ensures { IfOk result (λ made. made ≡ group_keys Side.Class items.now.classes ++ group_keys Side.Object items.now.objects) }
+    ensures { IfOk result (λ made. made ≡ group_keys Side.Class items.now.classes
+        ++ group_keys Side.Object items.now.objects) }
 {
     let mut keys = Row::new(alloc);
     push_keys(&mut keys, Side::Class, items.classes.as_slice())?;

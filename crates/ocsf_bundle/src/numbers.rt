@@ -6,7 +6,8 @@ ghost use Rattle.std.specs.BTreeMap.{get};
 ghost use Rattle.ocsf_tree.specs.LeastFault.{least_from, least_fault};
 ghost use Rattle.ocsf_bundle.specs.Active.{extension_uid};
 ghost use Rattle.ocsf_bundle.specs.FilesLook.{categories_said};
-ghost use Rattle.ocsf_bundle.specs.BundleFaults.{fault_if, is_before, taken, numbers_taken, extension_numbers, category_number, listed_categories, is_other, with_other, uids_taken};
+ghost use Rattle.ocsf_bundle.specs.BundleFaults.{fault_if, is_before, taken, numbers_taken, extension_numbers};
+ghost use Rattle.ocsf_bundle.specs.BundleFaults.{category_number, listed_categories, is_other, with_other, uids_taken};
 ghost use Rattle.ocsf_bundle.specs.OwnFaults.{has_lesser};
 
 use crate::active::extension_said;
@@ -73,7 +74,8 @@ fn number_taken(
     names: &BTreeMap<u64, Text>,
     item: &Numbered,
 ) -> Result<Option<Fault>, AllocError>
-    ensures { IfOk result (λ made. made ≡ fault_if (has_lesser (get nat_cmp names.now item.now.number) item.now.name) (taken label.now item.now)) }
+    ensures { IfOk result (λ made. made
+        ≡ fault_if (has_lesser (get nat_cmp names.now item.now.number) item.now.name) (taken label.now item.now)) }
 {
     if is_taken(names, item.number, &item.name) {
         Ok(Some(taken(alloc, label, item)?))

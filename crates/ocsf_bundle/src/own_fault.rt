@@ -48,7 +48,8 @@ fn too_many(
     what: &str,
     is_passed: bool,
 ) -> Result<Option<Fault>, AllocError>
-    ensures { IfOk result (λ made. made ≡ lesser_of least (fault_if is_passed (fault Code.TooMany (codes "bundle") what.now))) }
+    ensures { IfOk result (λ made. made
+        ≡ lesser_of least (fault_if is_passed (fault Code.TooMany (codes "bundle") what.now))) }
 {
     if is_passed {
         let found = fault(alloc, Code::TooMany, Text::of(alloc, "bundle")?, what)?;

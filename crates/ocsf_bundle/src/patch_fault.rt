@@ -81,7 +81,8 @@ pub fn patch_target(
     active: &[ActiveFile],
 ) -> Result<Option<Fault>, AllocError>
     requires { AreGroupsByName index.now }
-    ensures { IfOk result (λ made. made ≡ least_fault (filter_map (patch_fault (given_in index.now.items)) active.now)) }
+    ensures { IfOk result (λ made. made
+        ≡ least_fault (filter_map (patch_fault (given_in index.now.items)) active.now)) }
 {
     let mut least = None;
     for file in active {

@@ -111,7 +111,9 @@ fn note_types(
     mut least: Option<Fault>,
 ) -> Result<Option<Fault>, AllocError>
     requires { AreActiveSound dictionaries.now }
-    ensures { IfOk result (λ made. made ≡ least_from least (filter_map (type_fault (kinds_in dictionaries.now)) (map (λ entry. entry.name) entries.now))) }
+    ensures { IfOk result (λ made. made
+        ≡ least_from least (filter_map (type_fault (kinds_in dictionaries.now)) (map (λ entry.
+        entry.name) entries.now))) }
 {
     for entry in entries {
         least = lesser_of(least, type_fault(alloc, dictionaries, entry.name.as_str())?);

@@ -1,5 +1,6 @@
 -- The files of a folder, and the paths below a base.
-use Rattle.std.specs.Prelude.{◌≢◌, ℕ, List, [], length, drop, nat_eq, if◌then◌else◌, ◌&&◌, Option, Some, None, filter_map, IsSorted, IsPermutation, AllPairs, Bool, false, bytes_eq, codes}
+use Rattle.std.specs.Prelude.{◌≢◌, ℕ, List, [], length, drop, nat_eq, if◌then◌else◌, ◌&&◌, Option, Some, None}
+use Rattle.std.specs.Prelude.{filter_map, IsSorted, IsPermutation, AllPairs, Bool, false, bytes_eq, codes}
 use Rattle.std.specs.Option.{option_map_or}
 use Rattle.std.specs.Cmp.Lexicographic.{slice_cmp}
 use Rattle.std.specs.List.{find, starts_with}

@@ -37,7 +37,8 @@ names_after (Disable name) names = without_name name names
 -- the tables after the moves, in order
 abbrev pub moved : List Move → Kept → Kept
 moved [] kept = kept
-moved (move ∷ moves) kept = moved moves (record kept { files = files_after move kept.files; enabled = names_after move kept.enabled })
+moved (move ∷ moves) kept =
+    moved moves (record kept { files = files_after move kept.files; enabled = names_after move kept.enabled })
 
 -- the tables after a commit
 abbrev pub committed : List Move → ℕ → Kept → Kept

@@ -42,7 +42,8 @@ impl From<io::Error> for Fail {
     ghost use Rattle.std.specs.declared.io.ErrorKind.TheVariants.{OutOfMemory};
     ghost use Rattle.ocsf_edge.specs.declared.fault.Fail.TheVariants.{Failed, Memory};
 
-    ghost from_gives = { λ error fail. (error_kind error ≡ OutOfMemory → fail ≡ Memory) × (error_kind error ≢ OutOfMemory → fail ≡ Failed) };
+    ghost from_gives = { λ error fail. (error_kind error ≡ OutOfMemory → fail ≡ Memory)
+        × (error_kind error ≢ OutOfMemory → fail ≡ Failed) };
 
     fn from(error: io::Error) -> Self {
         match error.kind() {

@@ -1,7 +1,8 @@
 // A keeper in memory.
 ghost use Rattle.std.specs.Prelude.{◌≡◌, ◌++◌, ◌∷◌, [], Some, IfOk, bytes_eq};
 ghost use Rattle.std.specs.List.{list_any};
-ghost use Rattle.ocsf_edge.specs.Tables.{HasNoRepeats, files_after, moved, names_after, with_name, without_name, without_path};
+ghost use Rattle.ocsf_edge.specs.Tables.{HasNoRepeats, files_after, moved, names_after, with_name, without_name};
+ghost use Rattle.ocsf_edge.specs.Tables.{without_path};
 
 use crate::{Bytes, Fail, Keeper, Kept, KeptFile, Move, Seq};
 use std::alloc::{AllocError, Global};

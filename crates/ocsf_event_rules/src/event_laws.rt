@@ -1,5 +1,6 @@
 // What holds of every schema and event. The functions do nothing: each contract is a law.
-ghost use Rattle.ocsf_event_rules.specs.EventLaws.{AllowedIsFaultless, FaultlessIsAllowed, ReportIsEmptyWhereAllowed, HasOneReport};
+ghost use Rattle.ocsf_event_rules.specs.EventLaws.{AllowedIsFaultless, FaultlessIsAllowed, ReportIsEmptyWhereAllowed};
+ghost use Rattle.ocsf_event_rules.specs.EventLaws.{HasOneReport};
 
 /// Nothing is wrong with an event that is allowed.
 pub fn an_allowed_event_has_no_violation()

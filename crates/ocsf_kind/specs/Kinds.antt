@@ -1,5 +1,6 @@
 -- What a type leads to.
-use Rattle.std.specs.Prelude.{◌≡◌, ℕ, zero, suc, Bool, List, [], ◌∷◌, codes, Option, Some, None, unwrap_or, Result, Ok, Err, if◌then◌else◌, is_some, ◌||◌, not, ⊤}
+use Rattle.std.specs.Prelude.{◌≡◌, ℕ, zero, suc, Bool, List, [], ◌∷◌, codes, Option, Some, None, unwrap_or, Result, Ok}
+use Rattle.std.specs.Prelude.{Err, if◌then◌else◌, is_some, ◌||◌, not, ⊤}
 use Rattle.std.specs.Option.{option_map, option_and_then}
 use Rattle.std.specs.List.{filter_map}
 use Rattle.std.specs.Str.{bytes_eq}

@@ -11,4 +11,6 @@ moved (suc moves) types name = moved moves types (parent_of types name)
 
 -- a type turns in a cycle exactly where no way of at most 32 moves comes to an end
 abbrev pub IsCycleOfMoves : Type 0
-IsCycleOfMoves = (types : List TypeEntry) (name : List ℕ) → (kind_of types name ≡ Err Cycle) ↔ ((moves : ℕ) → moves ≤ 32 → is_end types (moved moves types name) ≡ false)
+IsCycleOfMoves =
+    (types : List TypeEntry) (name : List ℕ)
+    → (kind_of types name ≡ Err Cycle) ↔ ((moves : ℕ) → moves ≤ 32 → is_end types (moved moves types name) ≡ false)

@@ -61,7 +61,8 @@ over new old = record {
 
 -- the row after the entry, where `old` stood before
 abbrev pub after_entry : Layer → RawAttr → Option Spoken → Option Spoken
-after_entry layer entry old = if entry.removed then None else Some (over (given layer entry) (unwrap_or old (nothing entry.name)))
+after_entry layer entry old =
+    if entry.removed then None else Some (over (given layer entry) (unwrap_or old (nothing entry.name)))
 
 -- the rows after these entries of the layer
 abbrev pub after_layer : Layer → List RawAttr → List Spoken → List Spoken
@@ -80,7 +81,8 @@ abbrev pub group_after : RawAttr → Option (Bor ProfileFile) → Spoken → Opt
 group_after entry profile old = option_or (option_or entry.group (annotation (λ p. p.group) profile)) old.attr.group
 
 abbrev pub requirement_after : RawAttr → Option (Bor ProfileFile) → Spoken → Option Requirement
-requirement_after entry profile old = option_or (option_or entry.requirement (annotation (λ p. p.requirement) profile)) old.attr.requirement
+requirement_after entry profile old =
+    option_or (option_or entry.requirement (annotation (λ p. p.requirement) profile)) old.attr.requirement
 
 abbrev pub mark_after : List ℕ → Bool → List ℕ → Mark → Spoken → MarkSaid
 mark_after from is_profile key Unsaid old =

@@ -10,4 +10,6 @@ AreRowsByName = (layers : List Layer) → IsByName (λ row. row.attr.name) (tabl
 
 -- it has a row of just the attributes that are present
 abbrev pub HasRowOfEachPresent : Type 0
-HasRowOfEachPresent = (layers : List Layer) (attribute : List ℕ) → at_name (λ row. row.attr.name) attribute (table_of layers) ≡ spoken attribute layers
+HasRowOfEachPresent =
+    (layers : List Layer) (attribute : List ℕ)
+    → at_name (λ row. row.attr.name) attribute (table_of layers) ≡ spoken attribute layers

@@ -25,7 +25,9 @@ pub record Layer : Type 0 where
 abbrev pub layer_of : List ℕ → Option (Bor ProfileFile) → List ℕ → List RawAttr → Layer
 layer_of from profile key entries = record {
   from = from;
-  profile = option_map (λ (file : ProfileFile). let p : Profile = record { key = key; file = file } in p) (option_copied profile);
+  profile =
+      option_map (λ (file : ProfileFile). let p : Profile = record { key = key; file = file } in p)
+      (option_copied profile);
   entries = entries;
 }
 

@@ -1,5 +1,6 @@
 -- What layers say of their attributes: of each field, what the last layer says that gives it.
-use Rattle.std.specs.Prelude.{ℕ, Bool, true, false, List, [], ◌∷◌, map, reverse, flat_map, Option, Some, None, unwrap_or, if◌then◌else◌}
+use Rattle.std.specs.Prelude.{ℕ, Bool, true, false, List, [], ◌∷◌, map, reverse, flat_map, Option, Some, None}
+use Rattle.std.specs.Prelude.{unwrap_or, if◌then◌else◌}
 use Rattle.std.specs.Option.{option_or, option_map, option_map_or}
 use Rattle.std.specs.List.{filter_map}
 use Rattle.ocsf_tree.specs.declared.attribute.EnumMember.{EnumMember}
@@ -34,7 +35,9 @@ is_said Unsaid = false
 is_said _ = true
 
 abbrev pub mark_said : Spoken → Option GivenMark
-mark_said said = if is_said said.attr.mark then Some (record { mark = said.attr.mark; from = said.mark_from; is_key = said.mark_is_key }) else None
+mark_said said =
+    if is_said said.attr.mark
+    then Some (record { mark = said.attr.mark; from = said.mark_from; is_key = said.mark_is_key }) else None
 
 -- of each key the member of the first of these entries that gives it
 abbrev pub members_said : List Spoken → List EnumMember

@@ -1,7 +1,8 @@
 // A row after one more entry.
 ghost use Rattle.std.specs.Prelude.{◌≡◌, IfOk, []};
 ghost use Rattle.ocsf_merge.specs.Layers.{layer_of, given};
-ghost use Rattle.ocsf_merge.specs.Fold.{over, nothing, row_of, mark_after, type_from_after, group_after, requirement_after};
+ghost use Rattle.ocsf_merge.specs.Fold.{over, nothing, row_of, mark_after, type_from_after, group_after};
+ghost use Rattle.ocsf_merge.specs.Fold.{requirement_after};
 
 use crate::fields::{both_later, later};
 use crate::members::merged_members;
@@ -190,7 +191,8 @@ pub fn row_after(
     entry: &RawAttr,
     old: &Spoken,
 ) -> Result<Spoken, AllocError>
-    ensures { IfOk result (λ made. made ≡ over (given (layer_of from.now profile.entry profile_key.now []) entry.now) old.now) }
+    ensures { IfOk result (λ made. made
+        ≡ over (given (layer_of from.now profile.entry profile_key.now []) entry.now) old.now) }
 {
     row_parts(alloc, from, profile, profile_key, entry, old)
 }
@@ -203,7 +205,8 @@ pub fn first_row(
     profile_key: &str,
     entry: &RawAttr,
 ) -> Result<Spoken, AllocError>
-    ensures { IfOk result (λ made. made ≡ over (given (layer_of from.now profile.entry profile_key.now []) entry.now) (nothing entry.now.name)) }
+    ensures { IfOk result (λ made. made
+        ≡ over (given (layer_of from.now profile.entry profile_key.now []) entry.now) (nothing entry.now.name)) }
 {
     let none = nothing(alloc, &entry.name)?;
     row_after(alloc, from, profile, profile_key, entry, &none)

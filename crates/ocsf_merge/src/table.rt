@@ -41,7 +41,8 @@ impl Table {
     ) -> Result<(), AllocError>
         requires { AreEntriesOrdered attributes.now }
         ensures ok { OnOk result ((layers : List Layer) → self.old.rows ≡ table_of layers
-            → self.new.rows ≡ table_of (layers ++ layer_of from.now profile.entry profile_key.now attributes.now ∷ [])) }
+            → self.new.rows ≡ table_of (layers
+            ++ layer_of from.now profile.entry profile_key.now attributes.now ∷ [])) }
         ensures err { OnErr result (self.new ≡ self.old) }
     {
         let alloc = self.rows.allocator();
@@ -66,7 +67,8 @@ fn folded(
     profile_key: &str,
     attributes: &[RawAttr],
 ) -> Result<Row<Spoken>, AllocError>
-    ensures { IfOk result (λ made. made ≡ after_layer (layer_of from.now profile.entry profile_key.now attributes.now) attributes.now rows.now) }
+    ensures { IfOk result (λ made. made
+        ≡ after_layer (layer_of from.now profile.entry profile_key.now attributes.now) attributes.now rows.now) }
 {
     let mut made = Row::new(alloc);
     let mut adds = attributes;

@@ -1,6 +1,7 @@
 -- What the record of a file says: each field is the listed member of the tree, and nothing where that
 -- is absent or `null`.
-use Rattle.std.specs.Prelude.{ℕ, ℤ, pos, negsuc, Bool, ◌||◌, ◌^◌, nat_lt, List, [], ◌∷◌, if◌then◌else◌, codes, Option, Some, None, map, unwrap_or, option_map, option_and_then}
+use Rattle.std.specs.Prelude.{ℕ, ℤ, pos, negsuc, Bool, ◌||◌, ◌^◌, nat_lt, List, [], ◌∷◌, if◌then◌else◌, codes, Option}
+use Rattle.std.specs.Prelude.{Some, None, map, unwrap_or, option_map, option_and_then}
 use Rattle.std.specs.List.{filter_map}
 use Rattle.ocsf_tree.specs.declared.tree.Tree.{Tree, out-Tree}
 use Rattle.ocsf_tree.specs.declared.tree.Tree.TheOpen.{Tree-F}

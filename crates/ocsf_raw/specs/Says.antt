@@ -1,6 +1,7 @@
 -- What the tree of a file says, field by field: a field is the listed member, read as its sort, or nothing
 -- where that member is absent or `null`. A member of another sort has no reading.
-use Rattle.std.specs.Prelude.{◌≡◌, ℕ, ◌≤◌, pos, Bool, true, false, not, ◌&&◌, List, [], ◌∷◌, length, codes, Option, Some, None, IsSome, IsSomeAnd, filter, unwrap_or, ◌⊎◌, ⊤}
+use Rattle.std.specs.Prelude.{◌≡◌, ℕ, ◌≤◌, pos, Bool, true, false, not, ◌&&◌, List, [], ◌∷◌, length, codes, Option}
+use Rattle.std.specs.Prelude.{Some, None, IsSome, IsSomeAnd, filter, unwrap_or, ◌⊎◌, ⊤}
 use Rattle.std.specs.List.{AllZip}
 use Rattle.ocsf_tree.specs.declared.tree.Tree.{Tree, out-Tree}
 use Rattle.ocsf_tree.specs.declared.tree.Tree.TheOpen.{Tree-F}

@@ -1,6 +1,7 @@
 -- What is wanted of a file or an edit: at the place of a tree, of the items of a list and of the members
 -- of an object.
-use Rattle.std.specs.Prelude.{ℕ, ℤ, ◌+◌, pos, Bool, true, false, not, ◌&&◌, ◌||◌, ◌==◌, nat_le, int_le, List, [], ◌∷◌, length, if◌then◌else◌, codes, Option, Some, None, is_some}
+use Rattle.std.specs.Prelude.{ℕ, ℤ, ◌+◌, pos, Bool, true, false, not, ◌&&◌, ◌||◌, ◌==◌, nat_le, int_le, List, [], ◌∷◌}
+use Rattle.std.specs.Prelude.{length, if◌then◌else◌, codes, Option, Some, None, is_some}
 use Rattle.std.specs.Str.{bytes_eq}
 use Rattle.ocsf_tree.specs.declared.tree.Tree.{Tree}
 use Rattle.ocsf_tree.specs.declared.tree.Tree.TheOpen.{Tree-F}
@@ -11,7 +12,9 @@ use Rattle.ocsf_tree.specs.Requirement.{requirement_named}
 use Rattle.ocsf_tree.specs.declared.key.Side.{Side}
 use Rattle.ocsf_tree.specs.declared.key.Side.TheVariants as side
 use Rattle.ocsf_raw.specs.declared.what.What.{What}
-use Rattle.ocsf_raw.specs.declared.what.What.TheVariants.{NotAnObject, NotAList, NotAText, NotAWhole, NotAFlag, BadName, BadPath, NotARequirement, NestedInclude, NotTwo, OutOfRange, TooLong, NotOne}
+use Rattle.ocsf_raw.specs.declared.what.What.TheVariants.{NotAnObject, NotAList, NotAText, NotAWhole, NotAFlag, BadName}
+use Rattle.ocsf_raw.specs.declared.what.What.TheVariants.{BadPath, NotARequirement, NestedInclude, NotTwo, OutOfRange}
+use Rattle.ocsf_raw.specs.declared.what.What.TheVariants.{TooLong, NotOne}
 use Rattle.ocsf_raw.specs.declared.wanted.Wanted.{Wanted}
 use Rattle.ocsf_raw.specs.declared.wanted.Wanted.TheVariants.{Plain, Listed, Object, Refused}
 use Rattle.ocsf_raw.specs.declared.wanted.Plain.{Plain as Plains}

@@ -4,7 +4,8 @@ ghost use Rattle.ocsf_tree.specs.declared.tree.Tree.{out-Tree};
 ghost use Rattle.ocsf_tree.specs.Lookup.{member_at};
 ghost use Rattle.ocsf_tree.specs.Valid.{IsValid, IsValidMembers};
 ghost use Rattle.ocsf_tree.specs.Requirement.{requirement_named};
-ghost use Rattle.ocsf_raw.specs.Content.{texts_at, type_members, dictionary_file, includes_of, includes, constraint_at, item_uid, item_file, annotation_text, profile_file, extension_file, content};
+ghost use Rattle.ocsf_raw.specs.Content.{texts_at, type_members, dictionary_file, includes_of, includes, constraint_at};
+ghost use Rattle.ocsf_raw.specs.Content.{item_uid, item_file, annotation_text, profile_file, extension_file, content};
 
 use crate::dictionary::DictFile;
 use crate::entries::entries;

@@ -4,7 +4,8 @@ ghost use Rattle.ocsf_tree.specs.declared.tree.Member.{Member};
 ghost use Rattle.std.specs.List.{filter_map};
 ghost use Rattle.ocsf_tree.specs.Lookup.{member_at, text_at};
 ghost use Rattle.ocsf_tree.specs.Valid.{IsValid, IsValidMembers};
-ghost use Rattle.ocsf_raw.specs.Content.{enum_members, mark_in, entry_named, dictionary_entry_named, type_named, category_named};
+ghost use Rattle.ocsf_raw.specs.Content.{enum_members, mark_in, entry_named, dictionary_entry_named, type_named};
+ghost use Rattle.ocsf_raw.specs.Content.{category_named};
 
 use crate::attribute::{Mark, RawAttr};
 use crate::dictionary::{DictEntry, TypeEntry};

@@ -5,7 +5,8 @@ ghost use Rattle.std.specs.List.{filter_map};
 ghost use Rattle.ocsf_tree.specs.declared.tree.Tree.{out-Tree};
 ghost use Rattle.ocsf_tree.specs.Valid.{IsValid, IsValidMembers};
 ghost use Rattle.ocsf_tree.specs.Lookup.{text_of, text_at, is_null};
-ghost use Rattle.ocsf_raw.specs.Content.{flag_at, natural_below, natural_at, requirement_at, list_at, texts_in, texts_at, object_at, members_at, span_at, whole_pair, text_or_empty};
+ghost use Rattle.ocsf_raw.specs.Content.{flag_at, natural_below, natural_at, requirement_at, list_at, texts_in};
+ghost use Rattle.ocsf_raw.specs.Content.{texts_at, object_at, members_at, span_at, whole_pair, text_or_empty};
 
 use ocsf_tree::{Member, Requirement, Row, Span, Text, Tree, TryClone};
 use std::alloc::{AllocError, Global};

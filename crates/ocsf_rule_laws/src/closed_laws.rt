@@ -1,5 +1,6 @@
 // What holds of every compilation: what an item of it names is in it. The functions do nothing: each contract is a law.
-ghost use Rattle.ocsf_rule_laws.specs.ClosedLaws.{TypesAgree, HasEveryKind, LeadsIntoSchema, AreNumbersShown, AreFoundByNumber};
+ghost use Rattle.ocsf_rule_laws.specs.ClosedLaws.{TypesAgree, HasEveryKind, LeadsIntoSchema, AreNumbersShown};
+ghost use Rattle.ocsf_rule_laws.specs.ClosedLaws.{AreFoundByNumber};
 
 /// A type of the files has a fault exactly where it leads to no kind, and the fault says why it doesn't.
 pub fn types_and_kinds_agree()

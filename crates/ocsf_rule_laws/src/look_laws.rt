@@ -1,6 +1,7 @@
 // What the cells that an item reads are good for: what holds of every two bundles that show the same
 // there. The functions do nothing: each contract is a law.
-ghost use Rattle.ocsf_rule_laws.specs.LookLaws.{HaveSameChain, HaveSameLayers, HaveSameAttribute, HaveSameCategory, HaveSameItem};
+ghost use Rattle.ocsf_rule_laws.specs.LookLaws.{HaveSameChain, HaveSameLayers, HaveSameAttribute, HaveSameCategory};
+ghost use Rattle.ocsf_rule_laws.specs.LookLaws.{HaveSameItem};
 
 /// Two bundles that show the same at the cells read for the chain have the same chain.
 pub fn same_looks_give_the_same_chain()

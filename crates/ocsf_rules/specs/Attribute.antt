@@ -1,5 +1,6 @@
 -- An attribute of an item: what its layers say, and behind that the dictionary.
-use Rattle.std.specs.Prelude.{ℕ, ◌||◌, Bool, false, List, [], ◌∷◌, ◌++◌, map, reverse, flat_map, codes, Option, Some, None, unwrap_or, is_some, if◌then◌else◌}
+use Rattle.std.specs.Prelude.{ℕ, ◌||◌, Bool, false, List, [], ◌∷◌, ◌++◌, map, reverse, flat_map, codes, Option, Some}
+use Rattle.std.specs.Prelude.{None, unwrap_or, is_some, if◌then◌else◌}
 use Rattle.std.specs.Option.{option_map, option_and_then, option_or}
 use Rattle.std.specs.Str.{bytes_eq}
 use Rattle.ocsf_tree.specs.declared.key.Key.{Key}
@@ -82,7 +83,8 @@ only_in (c ∷ ext) t = in_extension (c ∷ ext) t ∷ []
 
 -- the keys of objects that a type may mean: in the item's extension, in that of who gives the type, in core
 abbrev pub object_candidates : List ℕ → TypeSaid → List (List ℕ)
-object_candidates ext t = if has_slash t.name then t.name ∷ [] else only_in ext t.name ++ only_in t.from t.name ++ t.name ∷ []
+object_candidates ext t =
+    if has_slash t.name then t.name ∷ [] else only_in ext t.name ++ only_in t.from t.name ++ t.name ∷ []
 
 abbrev pub object_cells : List ℕ → TypeSaid → List Cell
 object_cells ext t = map (exists_cell Object) (object_candidates ext t)
@@ -96,11 +98,15 @@ open_object t = if is_open_object t then Some target.Anything else None
 
 -- a data type, else an object, else the open object
 abbrev pub target_named : Looks → List ℕ → TypeSaid → Option Target
-target_named b ext t = if is_data_type b t.name then Some (target.Simple t.name) else option_or (option_map target.Object (object_named b ext t)) (open_object t.name)
+target_named b ext t =
+    if is_data_type b t.name then Some (target.Simple t.name)
+    else option_or (option_map target.Object (object_named b ext t)) (open_object t.name)
 
 -- what the type leads to, in an item of that extension; an attribute that no dictionary has leads nowhere
 abbrev pub target_of : Looks → List ℕ → Spoken → Option Target
-target_of b ext s = if is_there (b.dict s.attr.name) then option_and_then (target_named b ext) (type_of (dict_said (b.dict s.attr.name)) s) else None
+target_of b ext s =
+    if is_there (b.dict s.attr.name)
+    then option_and_then (target_named b ext) (type_of (dict_said (b.dict s.attr.name)) s) else None
 
 -- ---- the attribute
 
@@ -120,4 +126,6 @@ attr_from s d target profile computed = record {
 }
 
 abbrev pub attr_of : Looks → List ℕ → Option (List EnumMember) → Spoken → Attr
-attr_of b ext computed s = attr_from s (dict_said (b.dict s.attr.name)) (unwrap_or (target_of b ext s) target.Anything) (profile_of b s) computed
+attr_of b ext computed s =
+    attr_from s (dict_said (b.dict s.attr.name)) (unwrap_or (target_of b ext s) target.Anything) (profile_of b s)
+    computed

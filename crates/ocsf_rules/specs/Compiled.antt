@@ -1,5 +1,6 @@
 -- The compiled item.
-use Rattle.std.specs.Prelude.{ℕ, Bool, true, false, List, [], ◌∷◌, ◌++◌, map, reverse, codes, decimal, Option, Some, None, unwrap_or, is_none, nat_eq, if◌then◌else◌}
+use Rattle.std.specs.Prelude.{ℕ, Bool, true, false, List, [], ◌∷◌, ◌++◌, map, reverse, codes, decimal, Option, Some}
+use Rattle.std.specs.Prelude.{None, unwrap_or, is_none, nat_eq, if◌then◌else◌}
 use Rattle.std.specs.Option.{option_map, option_map_or, option_and_then}
 use Rattle.std.specs.List.{filter_map, starts_with}
 use Rattle.std.specs.Str.{bytes_eq}
@@ -65,7 +66,9 @@ starts_low name = starts_with nat_eq name (codes "_")
 
 -- a class without a number, and an object whose name starts with `_`
 abbrev pub is_hidden : Looks → Key → Bool
-is_hidden b k = if is_class k then is_none (uid b k) else option_map_or starts_low (option_and_then (λ file. file.name) (own_file b k)) false
+is_hidden b k =
+    if is_class k then is_none (uid b k)
+    else option_map_or starts_low (option_and_then (λ file. file.name) (own_file b k)) false
 
 -- ---- the category
 
@@ -103,7 +106,8 @@ ext_uid b [] = 0
 ext_uid b (c ∷ ext) = option_map_or (λ file. file.uid) (first_of (b.exts (c ∷ ext))) 0
 
 abbrev pub class_number : Looks → Key → Option ℕ
-class_number b k = option_and_then (λ u. option_map (λ c. class_uid (ext_uid b (ext_of k.name)) c.uid u) (category b k)) (uid b k)
+class_number b k =
+    option_and_then (λ u. option_map (λ c. class_uid (ext_uid b (ext_of k.name)) c.uid u) (category b k)) (uid b k)
 
 -- ---- computed enumerations
 
@@ -142,7 +146,14 @@ type_members number caption activities = first_of_each (λ m. m.key) (map (type_
 -- what the enumerations are computed from, in a class that isn't hidden and has a category
 abbrev pub numbered : Looks → Key → Option Numbered
 numbered b k =
-    option_and_then (λ number. option_map (λ c. record { number = number; caption = caption_or_key b k; category = c; activities = activities b k }) (category b k)) (class_number b k)
+    option_and_then (λ number.
+    option_map (λ c. record {
+      number = number;
+      caption = caption_or_key b k;
+      category = c;
+      activities = activities b
+          k;
+    }) (category b k)) (class_number b k)
 
 -- three attributes have a computed enumeration, in place of any given
 abbrev pub computed_members : Numbered → List ℕ → Option (List EnumMember)

@@ -1,5 +1,6 @@
 -- What is wrong with an item, and the least of it.
-use Rattle.std.specs.Prelude.{ℕ, ◌==◌, ◌&&◌, not, nat_lt, Bool, false, List, [], ◌∷◌, ◌++◌, flat_map, length, codes, Option, unwrap_or, is_some, is_none, if◌then◌else◌}
+use Rattle.std.specs.Prelude.{ℕ, ◌==◌, ◌&&◌, not, nat_lt, Bool, false, List, [], ◌∷◌, ◌++◌, flat_map, length, codes}
+use Rattle.std.specs.Prelude.{Option, unwrap_or, is_some, is_none, if◌then◌else◌}
 use Rattle.std.specs.Option.{option_map_or, option_or}
 use Rattle.std.specs.List.{list_any, take_while}
 use Rattle.std.specs.Str.{bytes_eq}
@@ -25,7 +26,8 @@ use Rattle.ocsf_rules.specs.declared.said.TypeSaid.{TypeSaid}
 use Rattle.ocsf_rules.specs.declared.category.Category.{Category}
 use Rattle.ocsf_rules.specs.declared.category.Written.{Written}
 use Rattle.ocsf_rules.specs.Names.{ext_of, found, profile_cells, include_cells}
-use Rattle.ocsf_rules.specs.Chain.{chain, written_parent, parent, Speaker, speakers, layers, include_layer, listed_layer}
+use Rattle.ocsf_rules.specs.Chain.{chain, written_parent, parent, Speaker, speakers, layers, include_layer}
+use Rattle.ocsf_rules.specs.Chain.{listed_layer}
 use Rattle.ocsf_rules.specs.Attribute.{dict_said, type_of, target_of}
 use Rattle.ocsf_rules.specs.Compiled.{uid, written_category, category, at_least_one, just_one, activities}
 
@@ -179,4 +181,5 @@ own_faults b k =
 -- of the chain; of the layers only where the chain has none; of the item only where these have none
 unfoldable pub item_fault : Looks → Key → Option Fault
 item_fault b k =
-    option_or (least_fault (chain_faults b k)) (option_or (least_fault (layers_faults b k)) (least_fault (own_faults b k)))
+    option_or (least_fault (chain_faults b k))
+    (option_or (least_fault (layers_faults b k)) (least_fault (own_faults b k)))

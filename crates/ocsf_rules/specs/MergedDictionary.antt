@@ -60,7 +60,8 @@ merged_types b l = map (merged_type b) l.types
 -- ---- what types lead to
 
 abbrev pub base_types : List (List ℕ)
-base_types = codes "boolean_t" ∷ codes "float_t" ∷ codes "integer_t" ∷ codes "json_t" ∷ codes "long_t" ∷ codes "string_t" ∷ []
+base_types =
+    codes "boolean_t" ∷ codes "float_t" ∷ codes "integer_t" ∷ codes "json_t" ∷ codes "long_t" ∷ codes "string_t" ∷ []
 
 -- the base types and the listed types
 abbrev pub data_types : Listing → List (List ℕ)

@@ -49,7 +49,8 @@ entry_reads b ext entry = if entry.removed then [] else mark_reads b ext entry.m
 
 -- a profile file stands for its key too
 abbrev pub layer_reads : Looks → Layer → List Cell
-layer_reads b layer = option_map_or (λ p. cell.Profile p.key ∷ []) layer.profile [] ++ flat_map (entry_reads b layer.from) layer.entries
+layer_reads b layer =
+    option_map_or (λ p. cell.Profile p.key ∷ []) layer.profile [] ++ flat_map (entry_reads b layer.from) layer.entries
 
 abbrev pub include_reads : Looks → List ℕ → List ℕ → List Cell
 include_reads b ext path = tried b (include_cells ext path) ++ flat_map (layer_reads b) (include_layer b ext path)
@@ -80,7 +81,8 @@ profile_reads b s = if s.mark_is_key then [] else mark_reads b s.mark_from s.att
 abbrev pub dict_reads : Looks → List ℕ → Spoken → List Cell
 dict_reads b ext s =
     let entries = b.dict s.attr.name in
-    cell.Dict s.attr.name ∷ (if is_there entries then option_map_or (type_reads b ext) (type_of (dict_said entries) s) [] else [])
+    cell.Dict s.attr.name ∷ (if is_there entries
+    then option_map_or (type_reads b ext) (type_of (dict_said entries) s) [] else [])
 
 -- of an attribute that is present, in an item of that extension
 abbrev pub attribute_reads : Looks → List ℕ → Spoken → List Cell

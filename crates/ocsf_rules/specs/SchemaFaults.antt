@@ -1,5 +1,6 @@
 -- What is wrong with a schema as a whole, where nothing is wrong with its files and its items.
-use Rattle.std.specs.Prelude.{ℕ, ◌*◌, ◌^◌, ◌==◌, ◌&&◌, nat_lt, Bool, false, List, [], ◌∷◌, ◌++◌, length, flat_map, codes, decimal, if◌then◌else◌}
+use Rattle.std.specs.Prelude.{ℕ, ◌*◌, ◌^◌, ◌==◌, ◌&&◌, nat_lt, Bool, false, List, [], ◌∷◌, ◌++◌, length, flat_map}
+use Rattle.std.specs.Prelude.{codes, decimal, if◌then◌else◌}
 use Rattle.std.specs.Option.{option_map_or}
 use Rattle.std.specs.List.{list_any}
 use Rattle.std.specs.Ordering.{is_lt}
@@ -26,7 +27,8 @@ abbrev pub is_taken : Looks → List Key → Key → ℕ → Bool
 is_taken b keys k number = list_any (λ j. comes_before j k && has_number b number j) keys
 
 abbrev pub number_fault : Looks → List Key → Key → ℕ → List Fault
-number_fault b keys k number = if is_taken b keys k number then fault code.UidClash (key_text k) (decimal number) ∷ [] else []
+number_fault b keys k number =
+    if is_taken b keys k number then fault code.UidClash (key_text k) (decimal number) ∷ [] else []
 
 -- another class of a lesser key has the number of the class
 abbrev pub uid_clash : Looks → List Key → Key → List Fault
@@ -38,7 +40,8 @@ max_print = 64 * 2 ^ 20
 
 -- the printed schema is longer, its line feed counted
 abbrev pub too_large : List ℕ → List Fault
-too_large print = if nat_lt max_print (length print) then fault code.TooLarge (codes "bundle") (codes "print") ∷ [] else []
+too_large print =
+    if nat_lt max_print (length print) then fault code.TooLarge (codes "bundle") (codes "print") ∷ [] else []
 
 unfoldable pub schema_faults : Looks → Listing → List Fault
 schema_faults b l = flat_map (uid_clash b l.items) l.items ++ too_large (printed_schema b l)

@@ -1,5 +1,6 @@
 -- What is wrong with a bundle: the least fault, and else a pattern that `regex` doesn't take.
-use Rattle.std.specs.Prelude.{◌≡◌, List, [], ◌∷◌, ◌++◌, flat_map, codes, Option, Some, None, All, IfSome, IsSomeAnd, ◌⊎◌}
+use Rattle.std.specs.Prelude.{◌≡◌, List, [], ◌∷◌, ◌++◌, flat_map, codes, Option, Some, None, All, IfSome, IsSomeAnd}
+use Rattle.std.specs.Prelude.{◌⊎◌}
 use Rattle.std.specs.Option.{option_or}
 use Rattle.ocsf_tree.specs.LeastFault.{least_fault}
 use Rattle.ocsf_tree.specs.declared.fault.Fault.{Fault}
@@ -33,7 +34,9 @@ fault_groups b l =
 
 -- the least fault of a bundle: of its files and types, and only where these have none of what is compiled
 unfoldable pub bundle_fault : Stored → Option Fault
-bundle_fault bundle = option_or (own_fault bundle.files bundle.enabled) (least_of_groups (fault_groups (looks bundle.files bundle.enabled) (listing bundle)))
+bundle_fault bundle =
+    option_or (own_fault bundle.files bundle.enabled)
+    (least_of_groups (fault_groups (looks bundle.files bundle.enabled) (listing bundle)))
 
 -- nothing is wrong with the bundle but, maybe, patterns
 abbrev pub IsFaultless : Stored → Type 0

@@ -1,6 +1,7 @@
 // The printed fragment of an item, as a tree.
 ghost use Rattle.std.specs.Prelude.{◌≡◌, ◌<◌, ◌^◌, IfOk, OnOk, IfSome, map};
-ghost use Rattle.ocsf_schema.specs.Print.{words, number, type_text, object_key, attribute_tree, attribute_member, constraints, fragment_tree};
+ghost use Rattle.ocsf_schema.specs.Print.{words, number, type_text, object_key, attribute_tree, attribute_member};
+ghost use Rattle.ocsf_schema.specs.Print.{constraints, fragment_tree};
 
 use crate::fields::{enumeration_field, flag_field, put_field, put_word, put_words, texts_field};
 use crate::{Attr, Item, Target};

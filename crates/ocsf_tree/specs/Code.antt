@@ -1,7 +1,13 @@
 -- The words of the codes of faults.
 use Rattle.std.specs.Prelude.{ℕ, List, codes}
 use Rattle.ocsf_tree.specs.declared.fault.Code.{Code}
-use Rattle.ocsf_tree.specs.declared.fault.Code.TheVariants.{NotJson, NumberNotWhole, PathUnknown, Shape, Limit, Absent, TooMany, ExtensionUnknown, KeyClash, UidTaken, PatchTarget, TypeUnknown, TypeCycle, ChainLimit, ParentUnknown, ExtendsCycle, IncludeUnknown, ProfileUnknown, AttributeUnknown, KindUnknown, CategoryUnknown, ConstraintUnknown, EnumKey, AttributeLimit, UidClash, TooLarge, PatternRefused, LastRevision}
+use Rattle.ocsf_tree.specs.declared.fault.Code.TheVariants.{NotJson, NumberNotWhole, PathUnknown, Shape, Limit, Absent}
+use Rattle.ocsf_tree.specs.declared.fault.Code.TheVariants.{TooMany, ExtensionUnknown, KeyClash, UidTaken, PatchTarget}
+use Rattle.ocsf_tree.specs.declared.fault.Code.TheVariants.{TypeUnknown, TypeCycle, ChainLimit, ParentUnknown}
+use Rattle.ocsf_tree.specs.declared.fault.Code.TheVariants.{ExtendsCycle, IncludeUnknown, ProfileUnknown}
+use Rattle.ocsf_tree.specs.declared.fault.Code.TheVariants.{AttributeUnknown, KindUnknown, CategoryUnknown}
+use Rattle.ocsf_tree.specs.declared.fault.Code.TheVariants.{ConstraintUnknown, EnumKey, AttributeLimit, UidClash}
+use Rattle.ocsf_tree.specs.declared.fault.Code.TheVariants.{TooLarge, PatternRefused, LastRevision}
 
 abbrev pub code_text : Code → List ℕ
 code_text NotJson = codes "not_json"

@@ -1,6 +1,7 @@
 -- What a tree is as the data of `serde_json`.
 use Rattle.std.specs.Prelude.{ℕ, List, [], ◌∷◌, map}
-use Rattle.serde_json.specs.Data.{Data, null, boolean, number, string, array, object, Items, Members as DataMembers, no_members, member}
+use Rattle.serde_json.specs.Data.{Data, null, boolean, number, string, array, object, Items, Members as DataMembers}
+use Rattle.serde_json.specs.Data.{no_members, member}
 use Rattle.serde_json.specs.View.{items_of}
 use Rattle.serde_json.specs.Find.{of_integer}
 use Rattle.ocsf_tree.specs.declared.tree.Tree.{Tree, fold-Tree}

@@ -24,7 +24,9 @@ IsAlwaysRead = (bytes : List ℕ) → (r : Result Tree TreeError) × IsReading b
 
 -- and no two
 abbrev pub IsReadOnce : Type 0
-IsReadOnce = (bytes : List ℕ) (r s : Result Tree TreeError) → IsReading bytes r → IsReading bytes s → r ≢ Err Memory → s ≢ Err Memory → r ≡ s
+IsReadOnce =
+    (bytes : List ℕ) (r s : Result Tree TreeError) → IsReading bytes r → IsReading bytes s → r ≢ Err Memory
+    → s ≢ Err Memory → r ≡ s
 
 -- valid trees of one text are equal
 abbrev pub IsTextOfOne : Type 0

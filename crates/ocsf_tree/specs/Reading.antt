@@ -1,5 +1,6 @@
 -- What a text reads as.
-use Rattle.std.specs.Prelude.{◌≡◌, ◌≢◌, ℕ, List, [], ◌∷◌, ⊤, Float, IsUtf8, Option, Some, option_and_then, Result, Ok, Err}
+use Rattle.std.specs.Prelude.{◌≡◌, ◌≢◌, ℕ, List, [], ◌∷◌, ⊤, Float, IsUtf8, Option, Some, option_and_then, Result, Ok}
+use Rattle.std.specs.Prelude.{Err}
 use Rattle.std.specs.declared.cmp.Ordering.TheVariants.{Greater}
 use Rattle.serde_json.specs.Data.{Data, number, float, depth}
 use Rattle.serde_json.specs.Find.{get, at}
@@ -35,7 +36,8 @@ IsInexactAt value place = (x : Float) × (value_at place value ≡ Some (number 
 
 -- and none at an earlier place
 abbrev pub IsFirstInexact : Data → List Step → Type 0
-IsFirstInexact value place = IsInexactAt value place × ((other : List Step) → IsInexactAt value other → place_cmp place other ≢ Greater)
+IsFirstInexact value place =
+    IsInexactAt value place × ((other : List Step) → IsInexactAt value other → place_cmp place other ≢ Greater)
 
 -- ---- the outcome
 
