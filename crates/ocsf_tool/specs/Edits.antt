@@ -22,15 +22,13 @@ use Rattle.ocsf_bundle.specs.After.{IsAfter}
 use Rattle.ocsf_bundle.specs.Stored.{Stored}
 use Rattle.ocsf_rules.specs.Compilation.{compilation}
 use Rattle.ocsf_rules.specs.Judgement as item
+use Rattle.ocsf_compiler.specs.NoFiles.{no_files}
 use Rattle.ocsf_lines.specs.Run.{Output, Replies}
 
 -- what stands between two lines: the files with the enabled extensions, and how many edits were accepted
 pub record Edited : Type 0 where
   pub bundle : Stored
   pub revision : ℕ
-
-abbrev pub no_files : Stored
-no_files = record { files = []; enabled = [] }
 
 abbrev pub no_edits : Edited
 no_edits = record { bundle = no_files; revision = 0 }
