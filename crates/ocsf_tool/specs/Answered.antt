@@ -25,7 +25,7 @@ use Rattle.ocsf_rule_laws.proofs.SomeEdit.{some_edit}
 use Rattle.ocsf_rule_laws.proofs.SomeAfter.{some_after}
 use Rattle.ocsf_rule_laws.proofs.SomeVerdict.{some_verdict}
 use Rattle.ocsf_tool.specs.Fronts.{past, front_long, front_whole}
-use Rattle.ocsf_tool.specs.Edits.{Edited, EditStep, IsChangesOutcome, IsSaidOutcome, IsReadOutcome, IsLineOutcome, IsJudgement, max_edit, too_long, line_fault, reply_tree, after_line}
+use Rattle.ocsf_tool.specs.Edits.{Edited, EditStep, IsChangesOutcome, IsSaidOutcome, IsReadOutcome, IsLineOutcome, IsLineJudgement, max_edit, too_long, line_fault, reply_tree, after_line}
 
 -- ---- changes
 
@@ -73,7 +73,7 @@ of_text old line =
 
 -- ---- lines
 
-some_judgement : (old : Edited) (line : List ℕ) → (outcome : Result Stored Fault) × IsJudgement old line outcome
+some_judgement : (old : Edited) (line : List ℕ) → (outcome : Result Stored Fault) × IsLineJudgement old line outcome
 some_judgement old line =
     elim (cases_lt max_edit (length line)) [
       | inl long ↦ (Err too_long, record { long = λ h. refl; short = λ h. absurd (past max_edit (length line) long h) })
@@ -83,7 +83,8 @@ some_judgement old line =
 abbrev Answer : Edited → List ℕ → Type 0
 Answer old line = (reply : List ℕ) × (is_refused : Bool) × (new : Edited) × EditStep old line reply is_refused new
 
-answer_of : (old : Edited) (line : List ℕ) (outcome : Result Stored Fault) → IsJudgement old line outcome → Answer old line
+answer_of : (old : Edited) (line : List ℕ) (outcome : Result Stored Fault)
+    → IsLineJudgement old line outcome → Answer old line
 answer_of old line outcome judged = (
   text (reply_tree old.revision outcome) ++ 10 ∷ [],
   is_err outcome,
@@ -96,10 +97,11 @@ some_step old line = let j = some_judgement old line in answer_of old line j.0 j
 
 -- ---- the front of a long line
 
-front_judged : (old : Edited) (line : List ℕ) (outcome : Result Stored Fault) → IsJudgement old (take (max_edit + 1) line) outcome → IsJudgement old line outcome
+front_judged : (old : Edited) (line : List ℕ) (outcome : Result Stored Fault)
+    → IsLineJudgement old (take (max_edit + 1) line) outcome → IsLineJudgement old line outcome
 front_judged old line outcome judged = record {
   long = λ h. judged.long (front_long max_edit line h);
-  short = λ h. (subst (λ l. IsJudgement old l outcome) (front_whole max_edit line h) judged).short h;
+  short = λ h. (subst (λ l. IsLineJudgement old l outcome) (front_whole max_edit line h) judged).short h;
 }
 
 pub step_by_front : (old : Edited) (line reply : List ℕ) (is_refused : Bool) (new : Edited) → EditStep old (take (max_edit + 1) line) reply is_refused new → EditStep old line reply is_refused new

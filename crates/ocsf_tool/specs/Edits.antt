@@ -21,7 +21,7 @@ use Rattle.ocsf_bundle.specs.Edits.{IsEdit}
 use Rattle.ocsf_bundle.specs.After.{IsAfter}
 use Rattle.ocsf_bundle.specs.Stored.{Stored}
 use Rattle.ocsf_rules.specs.Compilation.{compilation}
-use Rattle.ocsf_rules.specs.Judgement as item
+use Rattle.ocsf_rules.specs.Judgement.{IsJudgement}
 use Rattle.ocsf_compiler.specs.NoFiles.{no_files}
 use Rattle.ocsf_lines.specs.Run.{Output, Replies}
 
@@ -41,8 +41,9 @@ line_fault code name = record { code = code; subject = []; name = name }
 
 -- the changes are accepted, and leave this, exactly where their judgement finds no fault; or they are refused by it
 abbrev pub IsChangesOutcome : Edited → List Change → Result Stored Fault → Type 0
-IsChangesOutcome old changes (Ok new) = IsAfter old.bundle changes (Ok new) × item.IsJudgement old.bundle old.revision changes None
-IsChangesOutcome old changes (Err fault) = item.IsJudgement old.bundle old.revision changes (Some fault)
+IsChangesOutcome old changes (Ok new) =
+    IsAfter old.bundle changes (Ok new) × IsJudgement old.bundle old.revision changes None
+IsChangesOutcome old changes (Err fault) = IsJudgement old.bundle old.revision changes (Some fault)
 
 -- of what a tree says
 abbrev pub IsSaidOutcome : Edited → Result Edit RawError → Result Stored Fault → Type 0
@@ -75,7 +76,7 @@ abbrev pub too_long : Fault
 too_long = line_fault code.Limit (codes "edit")
 
 -- a longer line is refused unread
-pub record IsJudgement (old : Edited) (line : List ℕ) (outcome : Result Stored Fault) : Type 0 where
+pub record IsLineJudgement (old : Edited) (line : List ℕ) (outcome : Result Stored Fault) : Type 0 where
   pub long : max_edit < length line → outcome ≡ Err too_long
   pub short : length line ≤ max_edit → IsLineOutcome old line outcome
 
@@ -110,7 +111,7 @@ after_line old (Err fault) = old
 -- A line is judged at the files and the revision before it; the reply says how, and the next line comes after what was accepted.
 pub record EditStep (old : Edited) (line reply : List ℕ) (is_refused : Bool) (new : Edited) : Type 0 where
   pub outcome : Result Stored Fault
-  pub judged : IsJudgement old line outcome
+  pub judged : IsLineJudgement old line outcome
   pub replied : reply ≡ text (reply_tree old.revision outcome) ++ 10 ∷ []
   pub refused : is_refused ≡ is_err outcome
   pub left : new ≡ after_line old outcome

@@ -15,7 +15,7 @@ use Rattle.ocsf_bundle.specs.Stored.{Stored}
 use Rattle.ocsf_rules.specs.Verdict.{types_of, AreDecided}
 use Rattle.ocsf_tool.specs.declared.status.Status.TheVariants.{Limit}
 use Rattle.ocsf_tool.specs.Commands.{Command}
-use Rattle.ocsf_tool.specs.Edits.{Edited, IsJudgement}
+use Rattle.ocsf_tool.specs.Edits.{Edited, IsLineJudgement}
 use Rattle.ocsf_tool.specs.Folders.{AreFilesAt, all_enabled, IsCompiled}
 use Rattle.ocsf_tool.specs.Outputs.{Told, Ran}
 
@@ -31,7 +31,7 @@ pub record LeadsTo (old : Edited) (line : List ℕ) (new : Stored) : Type 0 wher
 abbrev pub HasOneOutcome : Type 0
 HasOneOutcome = (old : Edited) (line : List ℕ) (a b : Result Stored Fault)
     → ((new : Stored) → LeadsTo old line new → AreDecided (types_of new))
-    → IsJudgement old line a → IsJudgement old line b → a ≡ b
+    → IsLineJudgement old line a → IsLineJudgement old line b → a ≡ b
 
 -- the folder has these files, each of them without a fault
 abbrev pub AreFilesOf : List ℕ → List KeptFile → List StoredFile → Type 0

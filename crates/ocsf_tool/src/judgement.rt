@@ -4,7 +4,7 @@ ghost use Rattle.ocsf_tree.specs.Valid.{IsValid};
 ghost use Rattle.ocsf_bundle.specs.Edits.{IsValidChange};
 ghost use Rattle.ocsf_rules.specs.Judgement.{last_revision};
 ghost use Rattle.ocsf_rules.specs.Verdict.{IsVerdict};
-ghost use Rattle.ocsf_tool.specs.Edits.{IsChangesOutcome, IsTreeOutcome, IsLineOutcome, IsJudgement, line_fault};
+ghost use Rattle.ocsf_tool.specs.Edits.{IsChangesOutcome, IsTreeOutcome, IsLineOutcome, IsLineJudgement, line_fault};
 ghost use Rattle.ocsf_tool.specs.Judging.{IsBundleOutcome};
 ghost use Rattle.ocsf_tool.specs.Outcomes.{outcome_of, NumbersNext};
 
@@ -140,8 +140,8 @@ fn is_longer(line: &[u8], most: usize) -> bool
 
 /// Judges a line. What stands now stays as it is.
 pub fn judge(alloc: Global, now: &Compilation, line: &[u8]) -> Result<Outcome, AllocError>
-    ensures judgement { IfOk result (λ outcome. IsJudgement (record { bundle = now.now.bundle; revision = now.now.revision })
-        line.now (outcome_of outcome)) }
+    ensures judgement { IfOk result (λ outcome. IsLineJudgement
+        (record { bundle = now.now.bundle; revision = now.now.revision }) line.now (outcome_of outcome)) }
     ensures next { IfOk result (NumbersNext now.now.revision) }
 {
     if is_longer(line, MOST_EDIT) {
