@@ -1,5 +1,5 @@
 // The items of a bundle, and the least of their faults.
-ghost use Rattle.std.specs.Prelude.{◌≡◌, ◌+◌, None, IfOk, IfErr, OnOk, filter_map, length};
+ghost use Rattle.std.specs.Prelude.{◌≡◌, ◌+◌, ◌≤◌, None, IfOk, IfErr, OnOk, filter_map, length};
 ghost use Rattle.std.specs.Result.{result_ok, result_err};
 ghost use Rattle.ocsf_tree.specs.LeastFault.{least_fault};
 ghost use Rattle.ocsf_bundle.specs.FilesLook.{looks};
@@ -54,6 +54,7 @@ fn found_items<L: Ledger>(
     ensures least { IfOk result (λ found. found.least
         ≡ least_fault (filter_map (item_fault (looks bundle.now.files bundle.now.enabled)) (listing bundle.now).items)) }
     ensures steps { OnOk result (steps.new ≡ steps.old + length (listing bundle.now).items) }
+    ensures most_steps { steps.new ≤ steps.old + length (listing bundle.now).items }
 {
     let keys = bundle.keys();
     let mut pieces = Row::with_capacity(alloc, keys.len())?;
@@ -79,6 +80,7 @@ pub fn items_of<L: Ledger>(
     ensures fault { IfErr result (IsLeast
         (least_fault (filter_map (item_fault (looks bundle.now.files bundle.now.enabled)) (listing bundle.now).items))) }
     ensures steps { OnOk result (steps.new ≡ steps.old + length (listing bundle.now).items) }
+    ensures most_steps { steps.new ≤ steps.old + length (listing bundle.now).items }
 {
     let Found { pieces, least } = found_items(alloc, bundle, steps)?;
     match least {
