@@ -6,9 +6,9 @@ ghost use Rattle.ocsf_rules.specs.ItemFaults.{fault, leads_fault, missing_catego
 ghost use Rattle.ocsf_walk.specs.Typed.{type_lent};
 ghost use Rattle.std.specs.Option.{option_map};
 
+use crate::leads::Leads;
 use ocsf_merge::Spoken;
 use ocsf_rules::{Category, Written};
-use ocsf_schema::Target;
 use ocsf_tree::{Code, EnumMember, Fault, Key, Text, find_by_name};
 use ocsf_walk::{TypeLent, small_number, with_fault};
 use std::alloc::{AllocError, Global};
@@ -28,23 +28,22 @@ fn type_name(alloc: Global, name: &str, written: Option<TypeLent<'_>>) -> Result
 
 /// The least fault with that of an attribute, if it has one.
 pub(crate) fn with_attribute(
-    alloc: Global,
     least: Option<Fault>,
     key: &Key,
     name: &str,
-    there: bool,
-    target: &Option<Target>,
+    leads: &Leads,
     written: Option<TypeLent<'_>>,
 ) -> Result<Option<Fault>, AllocError>
-    ensures { IfOk result (λ made. made ≡ least_from least (leads_fault key.now name.now there target.now (option_map type_lent written.entry))) }
+    ensures { IfOk result (λ made. made ≡ least_from least
+        (leads_fault key.now name.now leads.now.there leads.now.target (option_map type_lent written.entry))) }
 {
-    if !there {
+    if !leads.there {
         return with_fault(least, Code::AttributeUnknown, key, name);
     }
-    if target.is_some() {
+    if leads.target.is_some() {
         return Ok(least);
     }
-    let name = type_name(alloc, name, written)?;
+    let name = type_name(key.name.allocator(), name, written)?;
     with_fault(least, Code::KindUnknown, key, name.as_str())
 }
 
