@@ -23,8 +23,10 @@ fn item_or_fault<L: Ledger>(
     key: &Key,
     steps: &mut Steps<L>,
 ) -> Result<Result<Shared<Piece>, Fault>, AllocError>
-    ensures item { IfOk result (λ made. result_ok made ≡ sound_item (looks bundle.now.files bundle.now.enabled) key.now) }
-    ensures fault { IfOk result (λ made. result_err made ≡ item_fault (looks bundle.now.files bundle.now.enabled) key.now) }
+    ensures item { IfOk result (λ made. result_ok made
+        ≡ sound_item (looks bundle.now.files bundle.now.enabled) key.now) }
+    ensures fault { IfOk result (λ made. result_err made
+        ≡ item_fault (looks bundle.now.files bundle.now.enabled) key.now) }
     ensures step { steps.new ≡ steps.old + 1 }
 {
     match build_item(alloc, bundle, key, steps) {
@@ -51,8 +53,8 @@ fn found_items<L: Ledger>(
 ) -> Result<Found, AllocError>
     ensures pieces { IfOk result (λ found. found.pieces
         ≡ filter_map (sound_item (looks bundle.now.files bundle.now.enabled)) (listing bundle.now).items) }
-    ensures least { IfOk result (λ found. found.least
-        ≡ least_fault (filter_map (item_fault (looks bundle.now.files bundle.now.enabled)) (listing bundle.now).items)) }
+    ensures least { IfOk result (λ found. found.least ≡ least_fault
+        (filter_map (item_fault (looks bundle.now.files bundle.now.enabled)) (listing bundle.now).items)) }
     ensures steps { OnOk result (steps.new ≡ steps.old + length (listing bundle.now).items) }
     ensures most_steps { steps.new ≤ steps.old + length (listing bundle.now).items }
 {
@@ -74,11 +76,13 @@ pub fn items_of<L: Ledger>(
     bundle: &Bundle,
     steps: &mut Steps<L>,
 ) -> Result<Row<Shared<Piece>>, CompileError>
-    ensures items { IfOk result (λ made. made ≡ items (looks bundle.now.files bundle.now.enabled) (listing bundle.now)) }
+    ensures items { IfOk result (λ made. made
+        ≡ items (looks bundle.now.files bundle.now.enabled) (listing bundle.now)) }
     ensures sound { OnOk result
-        (least_fault (filter_map (item_fault (looks bundle.now.files bundle.now.enabled)) (listing bundle.now).items) ≡ None) }
-    ensures fault { IfErr result (IsLeast
-        (least_fault (filter_map (item_fault (looks bundle.now.files bundle.now.enabled)) (listing bundle.now).items))) }
+        (least_fault (filter_map (item_fault (looks bundle.now.files bundle.now.enabled)) (listing bundle.now).items)
+        ≡ None) }
+    ensures fault { IfErr result (IsLeast (least_fault
+        (filter_map (item_fault (looks bundle.now.files bundle.now.enabled)) (listing bundle.now).items))) }
     ensures steps { OnOk result (steps.new ≡ steps.old + length (listing bundle.now).items) }
     ensures most_steps { steps.new ≤ steps.old + length (listing bundle.now).items }
 {

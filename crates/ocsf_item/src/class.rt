@@ -4,7 +4,18 @@ ghost use Rattle.ocsf_tree.specs.LeastFault.{least_from};
 ghost use Rattle.ocsf_merge.specs.Table.{table_of};
 ghost use Rattle.ocsf_rules.specs.Names.{ext_of};
 ghost use Rattle.ocsf_rules.specs.Chain.{speakers, layers};
-ghost use Rattle.ocsf_rules.specs.Compiled.{caption_or_key, ext_uid, last_given, written_in, category, class_number, activities, numbered, caption, uid};
+ghost use Rattle.ocsf_rules.specs.Compiled.{
+  caption_or_key,
+  ext_uid,
+  last_given,
+  written_in,
+  category,
+  class_number,
+  activities,
+  numbered,
+  caption,
+  uid,
+};
 ghost use Rattle.ocsf_rules.specs.ItemFaults.{activity_faults, category_fault};
 ghost use Rattle.ocsf_walk.specs.Ranges.{IsCategoryInRange, IsNumberedInRange};
 ghost use Rattle.ocsf_rules.specs.Reads.{category_reads};
@@ -50,9 +61,11 @@ fn category_parts<B: Shows>(
     requires uid { own_uid ≡ uid (B.looks site.now.bundle.now) site.now.key.now }
     requires given { given ≡ last_given written_in (speakers (B.looks site.now.bundle.now) site.now.key.now) }
     ensures category { IfOk result (λ made. made.category ≡ category (B.looks site.now.bundle.now) site.now.key.now) }
-    ensures least { IfOk result (λ made. made.least ≡ least_from least (category_fault (B.looks site.now.bundle.now) site.now.key.now)) }
+    ensures least { IfOk result (λ made. made.least
+        ≡ least_from least (category_fault (B.looks site.now.bundle.now) site.now.key.now)) }
     ensures range { IfOk result (λ made. IfSome made.category IsCategoryInRange) }
-    ensures reads { OnOk result (reads.new ≡ reads.old ++ category_reads (B.looks site.now.bundle.now) site.now.key.now) }
+    ensures reads { OnOk result (reads.new
+        ≡ reads.old ++ category_reads (B.looks site.now.bundle.now) site.now.key.now) }
 {
     let written = written_by(site.key, given);
     let category = category_named(site.alloc, site.bundle, &written, reads)?;
@@ -115,11 +128,15 @@ pub(crate) fn class_parts<B: Shows>(
     requires rows { rows.now ≡ table_of (layers (B.looks site.now.bundle.now) site.now.key.now) }
     ensures category { IfOk result (λ parts. parts.category ≡ category (B.looks site.now.bundle.now) site.now.key.now) }
     ensures number { IfOk result (λ parts. parts.number ≡ class_number (B.looks site.now.bundle.now) site.now.key.now) }
-    ensures numbered { activity_faults (B.looks site.now.bundle.now) site.now.key.now ≡ [] → IfOk result (λ parts. parts.numbered ≡ numbered (B.looks site.now.bundle.now) site.now.key.now) }
-    ensures least { IfOk result (λ parts. parts.least ≡ least_from (least_from None (activity_faults (B.looks site.now.bundle.now) site.now.key.now)) (category_fault (B.looks site.now.bundle.now) site.now.key.now)) }
+    ensures numbered { activity_faults (B.looks site.now.bundle.now) site.now.key.now ≡ []
+        → IfOk result (λ parts. parts.numbered ≡ numbered (B.looks site.now.bundle.now) site.now.key.now) }
+    ensures least { IfOk result (λ parts. parts.least
+        ≡ least_from (least_from None (activity_faults (B.looks site.now.bundle.now) site.now.key.now))
+        (category_fault (B.looks site.now.bundle.now) site.now.key.now)) }
     ensures category_range { IfOk result (λ parts. IfSome parts.category IsCategoryInRange) }
     ensures range { IfOk result (λ parts. IfSome parts.numbered IsNumberedInRange) }
-    ensures reads { OnOk result (reads.new ≡ reads.old ++ category_reads (B.looks site.now.bundle.now) site.now.key.now) }
+    ensures reads { OnOk result (reads.new
+        ≡ reads.old ++ category_reads (B.looks site.now.bundle.now) site.now.key.now) }
 {
     let counted = counts_of(site.alloc, site.bundle, site.key, own, rows)?;
     let Counted {

@@ -47,7 +47,9 @@ fn ext_reads(alloc: Global, key: &Key) -> Result<Row<Cell>, AllocError>
 /// The chain of the item, if nothing is wrong with it.
 fn sound_chain<B: Shows>(alloc: Global, bundle: &B, key: &Key) -> Result<Climbed, BuildError>
     ensures keys { IfOk result (λ made. made.keys ≡ chain (B.looks bundle.now) key.now) }
-    ensures reads { IfOk result (λ made. made.reads ≡ ext_reads (ext_of key.now.name) ++ flat_map (key_reads (B.looks bundle.now)) (chain (B.looks bundle.now) key.now)) }
+    ensures reads { IfOk result (λ made. made.reads
+        ≡ ext_reads (ext_of key.now.name)
+        ++ flat_map (key_reads (B.looks bundle.now)) (chain (B.looks bundle.now) key.now)) }
     ensures sound { IfOk result (λ made. least_fault (chain_faults (B.looks bundle.now) key.now) ≡ None) }
     ensures fault { IfErr result (IsLeastFault (B.looks bundle.now) key.now) }
 {
@@ -80,10 +82,12 @@ fn sound_layers<'a, B: Shows>(
 ) -> Result<Heard<'a>, BuildError>
     requires keys { climbed.keys ≡ chain (B.looks bundle.now) key.now }
     requires sound { least_fault (chain_faults (B.looks bundle.now) key.now) ≡ None }
-    ensures speakers { IfOk result (λ made. map speaker_of made.speakers.items ≡ speakers (B.looks bundle.now) key.now) }
+    ensures speakers { IfOk result (λ made. map speaker_of made.speakers.items
+        ≡ speakers (B.looks bundle.now) key.now) }
     ensures rows { IfOk result (λ made. made.rows ≡ table_of (layers (B.looks bundle.now) key.now)) }
     ensures profiles { IfOk result (λ made. made.profiles ≡ profile_keys (layers (B.looks bundle.now) key.now)) }
-    ensures reads { IfOk result (λ made. made.reads ≡ climbed.reads ++ flat_map (speaker_reads (B.looks bundle.now)) (speakers (B.looks bundle.now) key.now)) }
+    ensures reads { IfOk result (λ made. made.reads
+        ≡ climbed.reads ++ flat_map (speaker_reads (B.looks bundle.now)) (speakers (B.looks bundle.now) key.now)) }
     ensures sound { IfOk result (λ made. least_fault (layers_faults (B.looks bundle.now) key.now) ≡ None) }
     ensures fault { IfErr result (IsLeastFault (B.looks bundle.now) key.now) }
 {
@@ -134,8 +138,10 @@ fn sound_item<B: Shows>(
     requires chain { least_fault (chain_faults (B.looks site.now.bundle.now) site.now.key.now) ≡ None }
     requires layers { least_fault (layers_faults (B.looks site.now.bundle.now) site.now.key.now) ≡ None }
     ensures item { IfOk result (λ made. made.item ≡ item (B.looks site.now.bundle.now) site.now.key.now) }
-    ensures reads { IfOk result (λ made. made.reads ≡ heard.entry.reads ++ category_reads (B.looks site.now.bundle.now) site.now.key.now
-        ++ flat_map (attribute_reads (B.looks site.now.bundle.now) (ext_of site.now.key.now.name)) (table_of (layers (B.looks site.now.bundle.now) site.now.key.now))) }
+    ensures reads { IfOk result (λ made. made.reads
+        ≡ heard.entry.reads ++ category_reads (B.looks site.now.bundle.now) site.now.key.now
+        ++ flat_map (attribute_reads (B.looks site.now.bundle.now) (ext_of site.now.key.now.name))
+        (table_of (layers (B.looks site.now.bundle.now) site.now.key.now))) }
     ensures sound { IfOk result (λ made. item_fault (B.looks site.now.bundle.now) site.now.key.now ≡ None) }
     ensures fault { IfErr result (IsLeastFault (B.looks site.now.bundle.now) site.now.key.now) }
 {

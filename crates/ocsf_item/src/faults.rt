@@ -2,7 +2,16 @@
 ghost use Rattle.std.specs.Prelude.{◌≡◌, ◌++◌, IfOk, flat_map, codes};
 ghost use Rattle.ocsf_tree.specs.ByName.{IsByName};
 ghost use Rattle.ocsf_tree.specs.LeastFault.{least_from};
-ghost use Rattle.ocsf_rules.specs.ItemFaults.{fault, leads_fault, missing_category, absent_fault, activity_fault, activities_faults, size_fault, type_text};
+ghost use Rattle.ocsf_rules.specs.ItemFaults.{
+  fault,
+  leads_fault,
+  missing_category,
+  absent_fault,
+  activity_fault,
+  activities_faults,
+  size_fault,
+  type_text,
+};
 ghost use Rattle.ocsf_walk.specs.Typed.{type_lent};
 ghost use Rattle.std.specs.Option.{option_map};
 
@@ -158,7 +167,8 @@ pub(crate) fn with_rest(
     just_one: &[Text],
 ) -> Result<Option<Fault>, AllocError>
     requires { IsByName (λ row. row.attr.name) rows.now }
-    ensures { IfOk result (λ made. made ≡ least_from (least_from (least_from least (flat_map (absent_fault key.now rows.now) at_least_one.now))
+    ensures { IfOk result (λ made. made
+        ≡ least_from (least_from (least_from least (flat_map (absent_fault key.now rows.now) at_least_one.now))
         (flat_map (absent_fault key.now rows.now) just_one.now)) (size_fault key.now rows.now)) }
 {
     let least = with_constraints(least, key, rows, at_least_one)?;

@@ -39,7 +39,8 @@ fn members_in(
     numbered: &Option<Numbered>,
 ) -> Result<Row<EnumMember>, AllocError>
     requires { IfSome numbered.now IsNumberedInRange }
-    ensures { IfOk result (λ made. made ≡ unwrap_or (computed numbered.now row.now.attr.name) (members_of said.now row.now)) }
+    ensures { IfOk result (λ made. made
+        ≡ unwrap_or (computed numbered.now row.now.attr.name) (members_of said.now row.now)) }
 {
     match computed(alloc, numbered, row.attr.name.as_str())? {
         Some(members) => Ok(members),

@@ -48,9 +48,12 @@ pub(crate) fn leads_to<B: Shows>(
     reads: &mut Row<Cell>,
 ) -> Result<Leads, AllocError>
     requires { said.now ≡ dict_said ((B.looks site.now.bundle.now).dict row.now.attr.name) }
-    ensures there { IfOk result (λ leads. leads.there ≡ is_there ((B.looks site.now.bundle.now).dict row.now.attr.name)) }
-    ensures target { IfOk result (λ leads. leads.target ≡ target_of (B.looks site.now.bundle.now) (ext_of site.now.key.now.name) row.now) }
-    ensures reads { OnOk result (reads.new ≡ reads.old ++ dict_reads (B.looks site.now.bundle.now) (ext_of site.now.key.now.name) row.now) }
+    ensures there { IfOk result (λ leads. leads.there
+        ≡ is_there ((B.looks site.now.bundle.now).dict row.now.attr.name)) }
+    ensures target { IfOk result (λ leads. leads.target
+        ≡ target_of (B.looks site.now.bundle.now) (ext_of site.now.key.now.name) row.now) }
+    ensures reads { OnOk result (reads.new
+        ≡ reads.old ++ dict_reads (B.looks site.now.bundle.now) (ext_of site.now.key.now.name) row.now) }
 {
     let there = has_entry(site.bundle, &row.attr.name, reads)?;
     if !there {

@@ -6,8 +6,25 @@ ghost use Rattle.ocsf_merge.specs.Table.{table_of};
 ghost use Rattle.ocsf_rules.specs.Names.{ext_of};
 ghost use Rattle.ocsf_rules.specs.Chain.{speakers, layers};
 ghost use Rattle.ocsf_rules.specs.Attribute.{attr_of};
-ghost use Rattle.ocsf_rules.specs.Compiled.{caption, description, is_hidden, category, class_number, numbered, computed, at_least_one, just_one};
-ghost use Rattle.ocsf_rules.specs.ItemFaults.{own_faults, activity_faults, category_fault, attribute_fault, absent_fault, size_fault};
+ghost use Rattle.ocsf_rules.specs.Compiled.{
+  caption,
+  description,
+  is_hidden,
+  category,
+  class_number,
+  numbered,
+  computed,
+  at_least_one,
+  just_one,
+};
+ghost use Rattle.ocsf_rules.specs.ItemFaults.{
+  own_faults,
+  activity_faults,
+  category_fault,
+  attribute_fault,
+  absent_fault,
+  size_fault,
+};
 ghost use Rattle.ocsf_walk.specs.Ranges.{IsCategoryInRange, IsNumberedInRange};
 ghost use Rattle.ocsf_rules.specs.Reads.{category_reads, attribute_reads};
 ghost use Rattle.ocsf_walk.specs.Speakers.{speaker_of};
@@ -54,20 +71,28 @@ fn whole_of<B: Shows>(
 ) -> Result<Whole, AllocError>
     requires files { map speaker_of files.now ≡ speakers (B.looks site.now.bundle.now) site.now.key.now }
     requires rows { rows.now ≡ table_of (layers (B.looks site.now.bundle.now) site.now.key.now) }
-    ensures caption { IfOk result (λ whole. whole.own.caption ≡ caption (B.looks site.now.bundle.now) site.now.key.now) }
-    ensures description { IfOk result (λ whole. whole.own.description ≡ description (B.looks site.now.bundle.now) site.now.key.now) }
-    ensures hidden { IfOk result (λ whole. whole.own.hidden ≡ is_hidden (B.looks site.now.bundle.now) site.now.key.now) }
-    ensures category { IfOk result (λ whole. whole.class.category ≡ category (B.looks site.now.bundle.now) site.now.key.now) }
-    ensures number { IfOk result (λ whole. whole.class.number ≡ class_number (B.looks site.now.bundle.now) site.now.key.now) }
+    ensures caption { IfOk result (λ whole. whole.own.caption
+        ≡ caption (B.looks site.now.bundle.now) site.now.key.now) }
+    ensures description { IfOk result (λ whole. whole.own.description
+        ≡ description (B.looks site.now.bundle.now) site.now.key.now) }
+    ensures hidden { IfOk result (λ whole. whole.own.hidden
+        ≡ is_hidden (B.looks site.now.bundle.now) site.now.key.now) }
+    ensures category { IfOk result (λ whole. whole.class.category
+        ≡ category (B.looks site.now.bundle.now) site.now.key.now) }
+    ensures number { IfOk result (λ whole. whole.class.number
+        ≡ class_number (B.looks site.now.bundle.now) site.now.key.now) }
     ensures numbered { activity_faults (B.looks site.now.bundle.now) site.now.key.now ≡ []
         → IfOk result (λ whole. whole.class.numbered ≡ numbered (B.looks site.now.bundle.now) site.now.key.now) }
     ensures least { OnOk result (least.new
-        ≡ least_from (least_from None (activity_faults (B.looks site.now.bundle.now) site.now.key.now)) (category_fault (B.looks site.now.bundle.now) site.now.key.now)) }
+        ≡ least_from (least_from None (activity_faults (B.looks site.now.bundle.now) site.now.key.now))
+        (category_fault (B.looks site.now.bundle.now) site.now.key.now)) }
     ensures category_range { IfOk result (λ whole. IfSome whole.class.category IsCategoryInRange) }
     ensures range { IfOk result (λ whole. IfSome whole.class.numbered IsNumberedInRange) }
-    ensures at_least_one { IfOk result (λ whole. whole.at_least_one ≡ at_least_one (B.looks site.now.bundle.now) site.now.key.now) }
+    ensures at_least_one { IfOk result (λ whole. whole.at_least_one
+        ≡ at_least_one (B.looks site.now.bundle.now) site.now.key.now) }
     ensures just_one { IfOk result (λ whole. whole.just_one ≡ just_one (B.looks site.now.bundle.now) site.now.key.now) }
-    ensures reads { OnOk result (reads.new ≡ reads.old ++ category_reads (B.looks site.now.bundle.now) site.now.key.now) }
+    ensures reads { OnOk result (reads.new
+        ≡ reads.old ++ category_reads (B.looks site.now.bundle.now) site.now.key.now) }
 {
     let own = own_of(site.alloc, site.bundle, site.key)?;
     let given = given_by(files)?;
@@ -94,13 +119,16 @@ fn joined_of<B: Shows>(
     requires range { IfSome whole.now.class.numbered IsNumberedInRange }
     requires by_name { IsByName (λ row. row.attr.name) rows.now }
     ensures attrs { IfOk result (λ made. made.attrs
-        ≡ map (λ s. attr_of (B.looks site.now.bundle.now) (ext_of site.now.key.now.name) (computed whole.now.class.numbered s.attr.name) s) rows.now) }
+        ≡ map (λ s. attr_of (B.looks site.now.bundle.now) (ext_of site.now.key.now.name)
+        (computed whole.now.class.numbered s.attr.name) s) rows.now) }
     ensures reads { IfOk result (λ made. made.reads
         ≡ reads ++ flat_map (attribute_reads (B.looks site.now.bundle.now) (ext_of site.now.key.now.name)) rows.now) }
-    ensures least { IfOk result (λ made. made.least
-        ≡ least_from (least_from (least_from (least_from least (flat_map (attribute_fault (B.looks site.now.bundle.now) site.now.key.now) rows.now))
-        (flat_map (absent_fault site.now.key.now rows.now) whole.now.at_least_one))
-        (flat_map (absent_fault site.now.key.now rows.now) whole.now.just_one)) (size_fault site.now.key.now rows.now)) }
+    ensures least { let b = B.looks site.now.bundle.now in
+        let k = site.now.key.now in
+        IfOk result (λ made. made.least
+        ≡ least_from (least_from (least_from (least_from least (flat_map (attribute_fault b k) rows.now))
+        (flat_map (absent_fault k rows.now) whole.now.at_least_one))
+        (flat_map (absent_fault k rows.now) whole.now.just_one)) (size_fault k rows.now)) }
 {
     let attrs = Row::with_capacity(site.alloc, rows.len())?;
     let mut joined = Joined {
@@ -127,19 +155,32 @@ pub(crate) fn item_parts<B: Shows>(
 ) -> Result<Met, AllocError>
     requires files { map speaker_of files.now ≡ speakers (B.looks site.now.bundle.now) site.now.key.now }
     requires rows { rows.now ≡ table_of (layers (B.looks site.now.bundle.now) site.now.key.now) }
-    ensures caption { IfOk result (λ met. met.parts.own.caption ≡ caption (B.looks site.now.bundle.now) site.now.key.now) }
-    ensures description { IfOk result (λ met. met.parts.own.description ≡ description (B.looks site.now.bundle.now) site.now.key.now) }
-    ensures hidden { IfOk result (λ met. met.parts.own.hidden ≡ is_hidden (B.looks site.now.bundle.now) site.now.key.now) }
-    ensures category { IfOk result (λ met. met.parts.category ≡ category (B.looks site.now.bundle.now) site.now.key.now) }
-    ensures number { IfOk result (λ met. met.parts.number ≡ class_number (B.looks site.now.bundle.now) site.now.key.now) }
+    ensures caption { IfOk result (λ met. met.parts.own.caption
+        ≡ caption (B.looks site.now.bundle.now) site.now.key.now) }
+    ensures description { IfOk result (λ met. met.parts.own.description
+        ≡ description (B.looks site.now.bundle.now) site.now.key.now) }
+    ensures hidden { IfOk result (λ met. met.parts.own.hidden
+        ≡ is_hidden (B.looks site.now.bundle.now) site.now.key.now) }
+    ensures category { IfOk result (λ met. met.parts.category
+        ≡ category (B.looks site.now.bundle.now) site.now.key.now) }
+    ensures number { IfOk result (λ met. met.parts.number
+        ≡ class_number (B.looks site.now.bundle.now) site.now.key.now) }
     ensures profiles { IfOk result (λ met. met.parts.lists.profiles ≡ profiles) }
-    ensures at_least_one { IfOk result (λ met. met.parts.lists.at_least_one ≡ at_least_one (B.looks site.now.bundle.now) site.now.key.now) }
-    ensures just_one { IfOk result (λ met. met.parts.lists.just_one ≡ just_one (B.looks site.now.bundle.now) site.now.key.now) }
+    ensures at_least_one { IfOk result (λ met. met.parts.lists.at_least_one
+        ≡ at_least_one (B.looks site.now.bundle.now) site.now.key.now) }
+    ensures just_one { IfOk result (λ met. met.parts.lists.just_one
+        ≡ just_one (B.looks site.now.bundle.now) site.now.key.now) }
     ensures attrs { activity_faults (B.looks site.now.bundle.now) site.now.key.now ≡ []
-        → IfOk result (λ met. met.parts.attrs ≡ map (λ s. attr_of (B.looks site.now.bundle.now) (ext_of site.now.key.now.name) (computed (numbered (B.looks site.now.bundle.now) site.now.key.now) s.attr.name) s) (table_of (layers (B.looks site.now.bundle.now) site.now.key.now))) }
-    ensures reads { IfOk result (λ met. met.reads ≡ reads ++ category_reads (B.looks site.now.bundle.now) site.now.key.now
-        ++ flat_map (attribute_reads (B.looks site.now.bundle.now) (ext_of site.now.key.now.name)) (table_of (layers (B.looks site.now.bundle.now) site.now.key.now))) }
-    ensures least { IfOk result (λ met. met.least ≡ least_fault (own_faults (B.looks site.now.bundle.now) site.now.key.now)) }
+        → IfOk result (λ met. met.parts.attrs
+        ≡ map (λ s. attr_of (B.looks site.now.bundle.now) (ext_of site.now.key.now.name)
+        (computed (numbered (B.looks site.now.bundle.now) site.now.key.now) s.attr.name) s)
+        (table_of (layers (B.looks site.now.bundle.now) site.now.key.now))) }
+    ensures reads { IfOk result (λ met. met.reads
+        ≡ reads ++ category_reads (B.looks site.now.bundle.now) site.now.key.now
+        ++ flat_map (attribute_reads (B.looks site.now.bundle.now) (ext_of site.now.key.now.name))
+        (table_of (layers (B.looks site.now.bundle.now) site.now.key.now))) }
+    ensures least { IfOk result (λ met. met.least
+        ≡ least_fault (own_faults (B.looks site.now.bundle.now) site.now.key.now)) }
     ensures range { IfOk result (λ met. IfSome met.parts.category IsCategoryInRange) }
 {
     let mut reads = reads;

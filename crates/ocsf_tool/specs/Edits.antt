@@ -1,5 +1,26 @@
 -- The command `edits`: what each line is answered, and what it leaves.
-use Rattle.std.specs.Prelude.{◌≡◌, ℕ, ◌+◌, ◌≤◌, ◌<◌, ◌^◌, List, [], ◌∷◌, ◌++◌, length, Bool, codes, pos, is_err, Some, None, Result, Ok, Err}
+use Rattle.std.specs.Prelude.{
+  ◌≡◌,
+  ℕ,
+  ◌+◌,
+  ◌≤◌,
+  ◌<◌,
+  ◌^◌,
+  List,
+  [],
+  ◌∷◌,
+  ◌++◌,
+  length,
+  Bool,
+  codes,
+  pos,
+  is_err,
+  Some,
+  None,
+  Result,
+  Ok,
+  Err,
+}
 use Rattle.ocsf_tree.specs.declared.tree.Tree.{Tree}
 use Rattle.ocsf_tree.specs.declared.tree.Tree.TheVariants as tree
 use Rattle.ocsf_tree.specs.declared.tree.Member.{Member}
@@ -60,7 +81,8 @@ pub record IsTreeOutcome (old : Edited) (tree : Tree) (outcome : Result Stored F
 abbrev pub IsReadOutcome : Edited → Result Tree TreeError → Result Stored Fault → Type 0
 IsReadOutcome old (Ok tree) outcome = IsTreeOutcome old tree outcome
 IsReadOutcome old (Err NotJson) outcome = outcome ≡ Err (line_fault code.NotJson [])
-IsReadOutcome old (Err (NumberNotWhole place)) outcome = outcome ≡ Err (line_fault code.NumberNotWhole (pointer_text place.steps))
+IsReadOutcome old (Err (NumberNotWhole place)) outcome =
+    outcome ≡ Err (line_fault code.NumberNotWhole (pointer_text place.steps))
 IsReadOutcome old (Err Memory) outcome = ⊥
 
 pub record IsLineOutcome (old : Edited) (line : List ℕ) (outcome : Result Stored Fault) : Type 0 where
@@ -108,7 +130,8 @@ abbrev pub after_line : Edited → Result Stored Fault → Edited
 after_line old (Ok new) = record { bundle = new; revision = old.revision + 1 }
 after_line old (Err fault) = old
 
--- A line is judged at the files and the revision before it; the reply says how, and the next line comes after what was accepted.
+-- A line is judged at the files and the revision before it; the reply says how, and the next line comes after what was
+-- accepted.
 pub record EditStep (old : Edited) (line reply : List ℕ) (is_refused : Bool) (new : Edited) : Type 0 where
   pub outcome : Result Stored Fault
   pub judged : IsLineJudgement old line outcome
@@ -120,7 +143,8 @@ pub record EditStep (old : Edited) (line reply : List ℕ) (is_refused : Bool) (
 abbrev pub edits_print : Edited → List ℕ
 edits_print edited = schema_text (compilation edited.bundle)
 
--- The whole output of `edits` over these bytes: a reply to each line, and then the printed schema. Tells whether a line was refused.
+-- The whole output of `edits` over these bytes: a reply to each line, and then the printed schema. Tells whether a line
+-- was refused.
 abbrev pub EditsOutput : List ℕ → List ℕ → Bool → Type 0
 EditsOutput bytes out is_refused = Output EditStep edits_print no_edits bytes out is_refused
 

@@ -74,8 +74,8 @@ fn judge_bundle(alloc: Global, bundle: Bundle, revision: u32) -> Result<Outcome,
 /// Judges the changes of an edit.
 fn judge_edit(alloc: Global, now: &Compilation, edit: &Edit) -> Result<Outcome, AllocError>
     requires { All IsValidChange edit.now.changes }
-    ensures outcome { IfOk result (λ outcome. IsChangesOutcome (record { bundle = now.now.bundle; revision = now.now.revision })
-        edit.now.changes (outcome_of outcome)) }
+    ensures outcome { IfOk result (λ outcome. IsChangesOutcome
+        (record { bundle = now.now.bundle; revision = now.now.revision }) edit.now.changes (outcome_of outcome)) }
     ensures next { IfOk result (NumbersNext now.now.revision) }
 {
     match now.bundle.after(edit) {
@@ -91,8 +91,8 @@ fn judge_edit(alloc: Global, now: &Compilation, edit: &Edit) -> Result<Outcome, 
 /// Judges a tree as an edit.
 fn judge_tree(alloc: Global, now: &Compilation, tree: &Tree) -> Result<Outcome, AllocError>
     requires { IsValid tree.now }
-    ensures outcome { IfOk result (λ outcome. IsTreeOutcome (record { bundle = now.now.bundle; revision = now.now.revision })
-        tree.now (outcome_of outcome)) }
+    ensures outcome { IfOk result (λ outcome. IsTreeOutcome
+        (record { bundle = now.now.bundle; revision = now.now.revision }) tree.now (outcome_of outcome)) }
     ensures next { IfOk result (NumbersNext now.now.revision) }
 {
     match edit_of(alloc, tree) {
@@ -107,8 +107,8 @@ fn judge_tree(alloc: Global, now: &Compilation, tree: &Tree) -> Result<Outcome, 
 
 /// Judges a line that isn't too long.
 fn judge_text(alloc: Global, now: &Compilation, line: &[u8]) -> Result<Outcome, AllocError>
-    ensures outcome { IfOk result (λ outcome. IsLineOutcome (record { bundle = now.now.bundle; revision = now.now.revision })
-        line.now (outcome_of outcome)) }
+    ensures outcome { IfOk result (λ outcome. IsLineOutcome
+        (record { bundle = now.now.bundle; revision = now.now.revision }) line.now (outcome_of outcome)) }
     ensures next { IfOk result (NumbersNext now.now.revision) }
 {
     match read(alloc, line) {

@@ -4,9 +4,34 @@ ghost use Rattle.std.specs.Option.{option_to_list, option_copied};
 ghost use Rattle.ocsf_raw.specs.Ordered.{AreEntriesOrdered};
 ghost use Rattle.ocsf_tree.specs.Key.{key_text};
 ghost use Rattle.ocsf_rules.specs.Names.{key_in, found, tried, profile_cells, include_cells};
-ghost use Rattle.ocsf_rules.specs.Chain.{plain_layer, profile_layer, included_layer, layer_at, include_layer, listed_layer, layers_of};
-ghost use Rattle.ocsf_rules.specs.ItemFaults.{entry_fault, layer_faults, mark_fault, unknown_profile, unknown_include, include_faults, listed_faults, speaker_faults, fault};
-ghost use Rattle.ocsf_rules.specs.Reads.{mark_reads, entry_reads, layer_reads, include_reads, listed_reads, speaker_reads};
+ghost use Rattle.ocsf_rules.specs.Chain.{
+  plain_layer,
+  profile_layer,
+  included_layer,
+  layer_at,
+  include_layer,
+  listed_layer,
+  layers_of,
+};
+ghost use Rattle.ocsf_rules.specs.ItemFaults.{
+  entry_fault,
+  layer_faults,
+  mark_fault,
+  unknown_profile,
+  unknown_include,
+  include_faults,
+  listed_faults,
+  speaker_faults,
+  fault,
+};
+ghost use Rattle.ocsf_rules.specs.Reads.{
+  mark_reads,
+  entry_reads,
+  layer_reads,
+  include_reads,
+  listed_reads,
+  speaker_reads,
+};
 ghost use Rattle.ocsf_walk.specs.Speakers.{speaker_of, AreSpeakersOrdered};
 ghost use Rattle.ocsf_walk.specs.Walk.{Hears, profile_cell, include_cell, layers_at};
 
@@ -178,7 +203,8 @@ fn hear_profile<B: Shows>(
     requires { AreEntriesOrdered file.now.attributes }
     ensures { let b = B.looks bundle.now in
         let layer = profile_layer voice.now.ext.now key.now file.now in
-        OnOk result (Hears walk.old walk.new (layer ∷ []) (layer_reads b layer) (layer_faults b voice.now.by.now layer)) }
+        OnOk result (Hears walk.old walk.new
+        (layer ∷ []) (layer_reads b layer) (layer_faults b voice.now.by.now layer)) }
 {
     fold_profile(walk, voice.ext, key, file)?;
     hear_marks(bundle, walk, voice, file.attributes.as_slice())?;
@@ -195,7 +221,8 @@ fn hear_included<B: Shows>(
     requires { AreEntriesOrdered file.now.attributes }
     ensures { let b = B.looks bundle.now in
         let layer = profile_layer voice.now.ext.now (key_in voice.now.ext.now file.now.name) file.now in
-        OnOk result (Hears walk.old walk.new (layer ∷ []) (layer_reads b layer) (layer_faults b voice.now.by.now layer)) }
+        OnOk result (Hears walk.old walk.new
+        (layer ∷ []) (layer_reads b layer) (layer_faults b voice.now.by.now layer)) }
 {
     let key = key_in(voice.by.name.allocator(), voice.ext, file.name.as_str())?;
     hear_profile(bundle, walk, voice, &key, file)?;
