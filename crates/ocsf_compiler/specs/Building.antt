@@ -45,6 +45,8 @@ clash_in items i = option_and_then (clash_of items i) i.class_uid
 abbrev pub large_fault : ℕ → Option Fault
 large_fault bytes = fault_if (nat_lt max_print bytes) (fault code.TooLarge (codes "bundle") (codes "print"))
 
--- the least fault of a schema as a whole, of which these are the items: of its classes' numbers, else of its print's length
+-- the least fault of a schema as a whole, of which these are the items: of its classes' numbers, else of its print's
+-- length
 abbrev pub fault_in : SchemaParts → List Item → Option Fault
-fault_in schema items = option_or (least_fault (filter_map (clash_in schema.pieces) items)) (large_fault (length (schema_text schema)))
+fault_in schema items =
+    option_or (least_fault (filter_map (clash_in schema.pieces) items)) (large_fault (length (schema_text schema)))

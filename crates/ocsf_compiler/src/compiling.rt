@@ -1,5 +1,5 @@
 // A bundle compiled from scratch.
-ghost use Rattle.std.specs.Prelude.{◌≡◌, ◌+◌, None, IfOk, IfErr, OnOk, All, length};
+ghost use Rattle.std.specs.Prelude.{◌≡◌, ◌+◌, ◌≤◌, true, None, is_some, IfOk, IfErr, OnOk, All, length};
 ghost use Rattle.ocsf_tree.specs.ByName.{IsByName};
 ghost use Rattle.ocsf_raw.specs.Ordered.{IsTypeValid};
 ghost use Rattle.ocsf_bundle.specs.BundleFaults.{own_fault};
@@ -72,6 +72,8 @@ fn schema_of<L: Ledger>(
     ensures faultless { OnOk result (IsFaultless bundle.now) }
     ensures fault { IfErr result (IsLeast (bundle_fault bundle.now)) }
     ensures steps { OnOk result (steps.new ≡ steps.old + length (listing bundle.now).items) }
+    ensures most_steps { steps.new ≤ steps.old + length (listing bundle.now).items }
+    ensures no_step { is_some (own_fault bundle.now.files bundle.now.enabled) ≡ true → steps.new ≡ steps.old }
 {
     sound_files(bundle)?;
     let pieces = items_of(alloc, bundle, steps)?;
@@ -84,7 +86,7 @@ fn schema_of<L: Ledger>(
 
 /// The schema that the bundle is compiled to, from its files alone. It is refused by its least fault,
 /// and where it has none by the first type whose pattern `regex` doesn't take. A step is counted for each
-/// item that is compiled.
+/// item that is compiled or refused, and none where the files as a whole, or their types, have a fault.
 pub fn compile<L: Ledger>(
     alloc: Global,
     bundle: &Bundle,
@@ -94,6 +96,8 @@ pub fn compile<L: Ledger>(
     ensures clean { OnOk result (IsVerdict bundle.now None) }
     ensures refused { IfErr result (IsRefusedFor bundle.now) }
     ensures steps { OnOk result (steps.new ≡ steps.old + length (listing bundle.now).items) }
+    ensures most_steps { steps.new ≤ steps.old + length (listing bundle.now).items }
+    ensures no_step { is_some (own_fault bundle.now.files bundle.now.enabled) ≡ true → steps.new ≡ steps.old }
 {
     let types = types_of(alloc, bundle)?;
     let schema = schema_of(alloc, bundle, types.as_slice(), steps)?;

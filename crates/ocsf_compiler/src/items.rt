@@ -1,5 +1,5 @@
 // The items of a bundle, and the least of their faults.
-ghost use Rattle.std.specs.Prelude.{◌≡◌, ◌+◌, None, IfOk, IfErr, OnOk, filter_map, length};
+ghost use Rattle.std.specs.Prelude.{◌≡◌, ◌+◌, ◌≤◌, None, IfOk, IfErr, OnOk, filter_map, length};
 ghost use Rattle.std.specs.Result.{result_ok, result_err};
 ghost use Rattle.ocsf_tree.specs.LeastFault.{least_fault};
 ghost use Rattle.ocsf_bundle.specs.FilesLook.{looks};
@@ -23,8 +23,10 @@ fn item_or_fault<L: Ledger>(
     key: &Key,
     steps: &mut Steps<L>,
 ) -> Result<Result<Shared<Piece>, Fault>, AllocError>
-    ensures item { IfOk result (λ made. result_ok made ≡ sound_item (looks bundle.now.files bundle.now.enabled) key.now) }
-    ensures fault { IfOk result (λ made. result_err made ≡ item_fault (looks bundle.now.files bundle.now.enabled) key.now) }
+    ensures item { IfOk result (λ made. result_ok made
+        ≡ sound_item (looks bundle.now.files bundle.now.enabled) key.now) }
+    ensures fault { IfOk result (λ made. result_err made
+        ≡ item_fault (looks bundle.now.files bundle.now.enabled) key.now) }
     ensures step { steps.new ≡ steps.old + 1 }
 {
     match build_item(alloc, bundle, key, steps) {
@@ -51,9 +53,10 @@ fn found_items<L: Ledger>(
 ) -> Result<Found, AllocError>
     ensures pieces { IfOk result (λ found. found.pieces
         ≡ filter_map (sound_item (looks bundle.now.files bundle.now.enabled)) (listing bundle.now).items) }
-    ensures least { IfOk result (λ found. found.least
-        ≡ least_fault (filter_map (item_fault (looks bundle.now.files bundle.now.enabled)) (listing bundle.now).items)) }
+    ensures least { IfOk result (λ found. found.least ≡ least_fault
+        (filter_map (item_fault (looks bundle.now.files bundle.now.enabled)) (listing bundle.now).items)) }
     ensures steps { OnOk result (steps.new ≡ steps.old + length (listing bundle.now).items) }
+    ensures most_steps { steps.new ≤ steps.old + length (listing bundle.now).items }
 {
     let keys = bundle.keys();
     let mut pieces = Row::with_capacity(alloc, keys.len())?;
@@ -73,12 +76,15 @@ pub fn items_of<L: Ledger>(
     bundle: &Bundle,
     steps: &mut Steps<L>,
 ) -> Result<Row<Shared<Piece>>, CompileError>
-    ensures items { IfOk result (λ made. made ≡ items (looks bundle.now.files bundle.now.enabled) (listing bundle.now)) }
+    ensures items { IfOk result (λ made. made
+        ≡ items (looks bundle.now.files bundle.now.enabled) (listing bundle.now)) }
     ensures sound { OnOk result
-        (least_fault (filter_map (item_fault (looks bundle.now.files bundle.now.enabled)) (listing bundle.now).items) ≡ None) }
-    ensures fault { IfErr result (IsLeast
-        (least_fault (filter_map (item_fault (looks bundle.now.files bundle.now.enabled)) (listing bundle.now).items))) }
+        (least_fault (filter_map (item_fault (looks bundle.now.files bundle.now.enabled)) (listing bundle.now).items)
+        ≡ None) }
+    ensures fault { IfErr result (IsLeast (least_fault
+        (filter_map (item_fault (looks bundle.now.files bundle.now.enabled)) (listing bundle.now).items))) }
     ensures steps { OnOk result (steps.new ≡ steps.old + length (listing bundle.now).items) }
+    ensures most_steps { steps.new ≤ steps.old + length (listing bundle.now).items }
 {
     let Found { pieces, least } = found_items(alloc, bundle, steps)?;
     match least {

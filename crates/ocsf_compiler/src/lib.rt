@@ -6,6 +6,7 @@ mod compile_error;
 mod compiling;
 mod items;
 mod kinds;
+mod no_files;
 mod parts;
 mod patterns;
 mod schema_fault;
@@ -15,4 +16,4 @@ mod types;
 
 pub use compile_error::CompileError;
 pub use compiling::compile;
-pub use parts::{parts_of, types_of};
+pub use no_files::empty_schema;

@@ -84,7 +84,8 @@ fn type_tree(alloc: Global, entry: &TypeEntry) -> Result<Tree, AllocError>
 pub fn dictionary_tree(alloc: Global, entries: &[DictEntry]) -> Result<Tree, AllocError>
     requires by_name { IsByName (λ entry. entry.name) entries.now }
     requires by_key { All (λ entry. IsByKey entry.members) entries.now }
-    ensures tree { IfOk result (λ made. made ≡ tree.Members (map (λ entry. member entry.name (entry_tree entry)) entries.now)) }
+    ensures tree { IfOk result (λ made. made
+        ≡ tree.Members (map (λ entry. member entry.name (entry_tree entry)) entries.now)) }
     ensures valid { IfOk result IsValid }
 {
     let mut members = Row::with_capacity(alloc, entries.len())?;
@@ -100,7 +101,8 @@ pub fn dictionary_tree(alloc: Global, entries: &[DictEntry]) -> Result<Tree, All
 pub fn types_tree(alloc: Global, entries: &[TypeEntry]) -> Result<Tree, AllocError>
     requires by_name { IsByName (λ entry. entry.name) entries.now }
     requires valid { All IsTypeValid entries.now }
-    ensures tree { IfOk result (λ made. made ≡ tree.Members (map (λ entry. member entry.name (type_tree entry)) entries.now)) }
+    ensures tree { IfOk result (λ made. made
+        ≡ tree.Members (map (λ entry. member entry.name (type_tree entry)) entries.now)) }
     ensures valid { IfOk result IsValid }
 {
     let mut members = Row::with_capacity(alloc, entries.len())?;

@@ -9,7 +9,8 @@ use Rattle.ocsf_rules.specs.declared.category.Category.{Category}
 use Rattle.ocsf_item.specs.declared.own.Own.{Own}
 use Rattle.ocsf_rules.specs.Compiled.{category_number}
 
-abbrev pub item_from : Key → Option (List ℕ) → Own → Option Category → Option ℕ → List (List ℕ) → List (List ℕ) → List (List ℕ) → List Attr → Item
+abbrev pub item_from : Key → Option (List ℕ) → Own → Option Category → Option ℕ → List (List ℕ) → List (List ℕ)
+    → List (List ℕ) → List Attr → Item
 item_from k parent own category number profiles at_least_one just_one attrs = record {
   key = k;
   caption = own.caption;

@@ -42,6 +42,17 @@ pub(crate) struct Lists {
     pub just_one: Row<Text>,
 }
 
+/// What an item is made of.
+#[derive(Drop)]
+pub(crate) struct Parts {
+    pub own: Own,
+    pub category: Option<Category>,
+    /// The number of a class.
+    pub number: Option<u64>,
+    pub lists: Lists,
+    pub attrs: Row<Attr>,
+}
+
 /// The key of an item, and the profiles of its layers, each once.
 #[derive(Drop)]
 struct Headed {
@@ -63,15 +74,19 @@ pub(crate) fn assembled(
     alloc: Global,
     key: &Key,
     parent: Option<Text>,
-    own: Own,
-    category: Option<Category>,
-    number: Option<u64>,
-    lists: Lists,
-    attrs: Row<Attr>,
+    parts: Parts,
 ) -> Result<Item, AllocError>
-    requires { IfSome category IsCategoryInRange }
-    ensures { IfOk result (λ made. made ≡ item_from key.now parent own category number lists.profiles lists.at_least_one lists.just_one attrs) }
+    requires { IfSome parts.category IsCategoryInRange }
+    ensures { IfOk result (λ made. made ≡ item_from key.now parent parts.own parts.category parts.number
+        parts.lists.profiles parts.lists.at_least_one parts.lists.just_one parts.attrs) }
 {
+    let Parts {
+        own,
+        category,
+        number,
+        lists,
+        attrs,
+    } = parts;
     let head = head_of(alloc, key, lists.profiles.as_slice())?;
     let category_uid = category_number(&category);
     let category = category_key(category);

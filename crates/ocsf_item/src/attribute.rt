@@ -92,7 +92,8 @@ struct Texts {
 fn texts_of(row: &Spoken, said: &DictSaid) -> Result<Texts, AllocError>
     ensures name { IfOk result (λ made. made.name ≡ row.now.attr.name) }
     ensures caption { IfOk result (λ made. made.caption ≡ option_or row.now.attr.caption said.now.caption) }
-    ensures description { IfOk result (λ made. made.description ≡ option_or row.now.attr.description said.now.description) }
+    ensures description { IfOk result (λ made. made.description
+        ≡ option_or row.now.attr.description said.now.description) }
     ensures sibling { IfOk result (λ made. made.sibling ≡ option_or row.now.attr.sibling said.now.sibling) }
     ensures group { IfOk result (λ made. made.group ≡ row.now.attr.group) }
 {
@@ -118,7 +119,8 @@ pub(crate) fn attr_from(
     profile: Option<Text>,
     members: Row<EnumMember>,
 ) -> Result<Attr, AllocError>
-    ensures { IfOk result (λ made. made ≡ attr_from row.now said.now (unwrap_or target Anything) profile (Some members)) }
+    ensures { IfOk result (λ made. made
+        ≡ attr_from row.now said.now (unwrap_or target Anything) profile (Some members)) }
 {
     let texts = texts_of(row, said)?;
     let is_array = row.attr.is_array.or(said.is_array).unwrap_or(false);

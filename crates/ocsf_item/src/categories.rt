@@ -57,7 +57,8 @@ fn category_shown<B: Shows>(
     cell: &Cell,
 ) -> Result<Option<Category>, AllocError>
     requires { cell.now ≡ category_cell key.now }
-    ensures category { IfOk result (λ made. made ≡ option_map (category_of key.now) (first_of ((B.looks bundle.now).categories key.now))) }
+    ensures category { IfOk result (λ made. made
+        ≡ option_map (category_of key.now) (first_of ((B.looks bundle.now).categories key.now))) }
     ensures range { IfOk result (λ made. IfSome made IsCategoryInRange) }
 {
     match bundle.look(cell, 0) {
@@ -91,7 +92,8 @@ fn category_written<B: Shows>(
 ) -> Result<Option<Category>, AllocError>
     ensures category { IfOk result (λ made. made ≡ category_named (B.looks bundle.now) written.now) }
     ensures range { IfOk result (λ made. IfSome made IsCategoryInRange) }
-    ensures reads { OnOk result (reads.new ≡ reads.old ++ tried (B.looks bundle.now) (category_cells written.now.ext written.now.name)) }
+    ensures reads { OnOk result (reads.new
+        ≡ reads.old ++ tried (B.looks bundle.now) (category_cells written.now.ext written.now.name)) }
 {
     let cells = category_cells(alloc, written.ext.as_str(), written.name.as_str())?;
     match resolve(bundle, cells.as_slice(), reads)? {
@@ -109,7 +111,8 @@ pub(crate) fn category_named<B: Shows>(
 ) -> Result<Option<Category>, AllocError>
     ensures category { IfOk result (λ made. made ≡ option_and_then (category_named (B.looks bundle.now)) written.now) }
     ensures range { IfOk result (λ made. IfSome made IsCategoryInRange) }
-    ensures reads { OnOk result (reads.new ≡ reads.old ++ option_map_or (λ w. tried (B.looks bundle.now) (category_cells w.ext w.name)) written.now []) }
+    ensures reads { OnOk result (reads.new
+        ≡ reads.old ++ option_map_or (λ w. tried (B.looks bundle.now) (category_cells w.ext w.name)) written.now []) }
 {
     match written {
         Some(written) => category_written(alloc, bundle, written, reads),
@@ -161,7 +164,8 @@ pub(crate) fn class_number(
     requires extension { ext_uid ≤ 999 }
     requires uid { IfSome uid (λ uid. uid ≤ 999) }
     requires category { IfSome category.now IsCategoryInRange }
-    ensures number { result ≡ option_and_then (λ u. option_map (λ (c : Category). class_uid ext_uid c.uid u) category.now) uid }
+    ensures number { result
+        ≡ option_and_then (λ u. option_map (λ (c : Category). class_uid ext_uid c.uid u) category.now) uid }
     ensures range { IfSome result (λ number. number ≤ 99999999) }
 {
     let uid = uid?;

@@ -4,7 +4,18 @@ ghost use Rattle.ocsf_tree.specs.LeastFault.{least_from};
 ghost use Rattle.ocsf_merge.specs.Table.{table_of};
 ghost use Rattle.ocsf_rules.specs.Names.{ext_of};
 ghost use Rattle.ocsf_rules.specs.Chain.{speakers, layers};
-ghost use Rattle.ocsf_rules.specs.Compiled.{caption_or_key, ext_uid, last_given, written_in, category, class_number, activities, numbered, caption, uid};
+ghost use Rattle.ocsf_rules.specs.Compiled.{
+  caption_or_key,
+  ext_uid,
+  last_given,
+  written_in,
+  category,
+  class_number,
+  activities,
+  numbered,
+  caption,
+  uid,
+};
 ghost use Rattle.ocsf_rules.specs.ItemFaults.{activity_faults, category_fault};
 ghost use Rattle.ocsf_walk.specs.Ranges.{IsCategoryInRange, IsNumberedInRange};
 ghost use Rattle.ocsf_rules.specs.Reads.{category_reads};
@@ -12,6 +23,7 @@ ghost use Rattle.ocsf_rules.specs.Reads.{category_reads};
 use crate::categories::{category_named, class_number, ext_uid};
 use crate::faults::{with_activities, with_category};
 use crate::own::{Own, activities, caption_or_key};
+use crate::site::Site;
 use ocsf_bundle::{Cell, Shows};
 use ocsf_merge::Spoken;
 use ocsf_rules::{Category, Numbered, Written};
@@ -40,24 +52,24 @@ struct Categorized {
 
 /// The category of a class for which that one is given. The cells tried for it are read.
 fn category_parts<B: Shows>(
-    alloc: Global,
-    bundle: &B,
-    key: &Key,
+    site: &Site<'_, B>,
     own_uid: Option<u32>,
     given: Option<Written>,
     least: Option<Fault>,
     reads: &mut Row<Cell>,
 ) -> Result<Categorized, AllocError>
-    requires uid { own_uid ≡ uid (B.looks bundle.now) key.now }
-    requires given { given ≡ last_given written_in (speakers (B.looks bundle.now) key.now) }
-    ensures category { IfOk result (λ made. made.category ≡ category (B.looks bundle.now) key.now) }
-    ensures least { IfOk result (λ made. made.least ≡ least_from least (category_fault (B.looks bundle.now) key.now)) }
+    requires uid { own_uid ≡ uid (B.looks site.now.bundle.now) site.now.key.now }
+    requires given { given ≡ last_given written_in (speakers (B.looks site.now.bundle.now) site.now.key.now) }
+    ensures category { IfOk result (λ made. made.category ≡ category (B.looks site.now.bundle.now) site.now.key.now) }
+    ensures least { IfOk result (λ made. made.least
+        ≡ least_from least (category_fault (B.looks site.now.bundle.now) site.now.key.now)) }
     ensures range { IfOk result (λ made. IfSome made.category IsCategoryInRange) }
-    ensures reads { OnOk result (reads.new ≡ reads.old ++ category_reads (B.looks bundle.now) key.now) }
+    ensures reads { OnOk result (reads.new
+        ≡ reads.old ++ category_reads (B.looks site.now.bundle.now) site.now.key.now) }
 {
-    let written = written_by(key, given);
-    let category = category_named(alloc, bundle, &written, reads)?;
-    let least = with_category(least, key, &category, &written, own_uid)?;
+    let written = written_by(site.key, given);
+    let category = category_named(site.alloc, site.bundle, &written, reads)?;
+    let least = with_category(least, site.key, &category, &written, own_uid)?;
     Ok(Categorized { category, least })
 }
 
@@ -103,35 +115,37 @@ fn counts_of<B: Shows>(
 
 /// What a class has besides. The cells tried for its category are read.
 pub(crate) fn class_parts<B: Shows>(
-    alloc: Global,
-    bundle: &B,
-    key: &Key,
+    site: &Site<'_, B>,
     own: &Own,
     given: Option<Written>,
     rows: &[Spoken],
     reads: &mut Row<Cell>,
 ) -> Result<ClassParts, AllocError>
-    requires caption { own.now.caption ≡ caption (B.looks bundle.now) key.now }
-    requires uid { own.now.uid ≡ uid (B.looks bundle.now) key.now }
+    requires caption { own.now.caption ≡ caption (B.looks site.now.bundle.now) site.now.key.now }
+    requires uid { own.now.uid ≡ uid (B.looks site.now.bundle.now) site.now.key.now }
     requires range { IfSome own.now.uid (λ uid. uid ≤ 999) }
-    requires given { given ≡ last_given written_in (speakers (B.looks bundle.now) key.now) }
-    requires rows { rows.now ≡ table_of (layers (B.looks bundle.now) key.now) }
-    ensures category { IfOk result (λ parts. parts.category ≡ category (B.looks bundle.now) key.now) }
-    ensures number { IfOk result (λ parts. parts.number ≡ class_number (B.looks bundle.now) key.now) }
-    ensures numbered { activity_faults (B.looks bundle.now) key.now ≡ [] → IfOk result (λ parts. parts.numbered ≡ numbered (B.looks bundle.now) key.now) }
-    ensures least { IfOk result (λ parts. parts.least ≡ least_from (least_from None (activity_faults (B.looks bundle.now) key.now)) (category_fault (B.looks bundle.now) key.now)) }
+    requires given { given ≡ last_given written_in (speakers (B.looks site.now.bundle.now) site.now.key.now) }
+    requires rows { rows.now ≡ table_of (layers (B.looks site.now.bundle.now) site.now.key.now) }
+    ensures category { IfOk result (λ parts. parts.category ≡ category (B.looks site.now.bundle.now) site.now.key.now) }
+    ensures number { IfOk result (λ parts. parts.number ≡ class_number (B.looks site.now.bundle.now) site.now.key.now) }
+    ensures numbered { activity_faults (B.looks site.now.bundle.now) site.now.key.now ≡ []
+        → IfOk result (λ parts. parts.numbered ≡ numbered (B.looks site.now.bundle.now) site.now.key.now) }
+    ensures least { IfOk result (λ parts. parts.least
+        ≡ least_from (least_from None (activity_faults (B.looks site.now.bundle.now) site.now.key.now))
+        (category_fault (B.looks site.now.bundle.now) site.now.key.now)) }
     ensures category_range { IfOk result (λ parts. IfSome parts.category IsCategoryInRange) }
     ensures range { IfOk result (λ parts. IfSome parts.numbered IsNumberedInRange) }
-    ensures reads { OnOk result (reads.new ≡ reads.old ++ category_reads (B.looks bundle.now) key.now) }
+    ensures reads { OnOk result (reads.new
+        ≡ reads.old ++ category_reads (B.looks site.now.bundle.now) site.now.key.now) }
 {
-    let counted = counts_of(alloc, bundle, key, own, rows)?;
+    let counted = counts_of(site.alloc, site.bundle, site.key, own, rows)?;
     let Counted {
         ext,
         caption,
         activities,
         least,
     } = counted;
-    let made = category_parts(alloc, bundle, key, own.uid, given, least, reads)?;
+    let made = category_parts(site, own.uid, given, least, reads)?;
     let Categorized { category, least } = made;
     let number = class_number(ext, own.uid, &category);
     let numbered = numbered_by(number, caption, &category, activities)?;

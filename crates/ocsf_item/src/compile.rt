@@ -15,7 +15,8 @@ ghost use Rattle.ocsf_item.specs.Built.{IsLeastFault};
 use crate::assemble::assembled;
 use crate::build_error::BuildError;
 use crate::order::in_order;
-use crate::parts::{Parts, item_parts};
+use crate::parts::{Met, item_parts};
+use crate::site::Site;
 use ocsf_bundle::{Cell, Shows};
 use ocsf_merge::{Spoken, Table};
 use ocsf_schema::Item;
@@ -46,7 +47,9 @@ fn ext_reads(alloc: Global, key: &Key) -> Result<Row<Cell>, AllocError>
 /// The chain of the item, if nothing is wrong with it.
 fn sound_chain<B: Shows>(alloc: Global, bundle: &B, key: &Key) -> Result<Climbed, BuildError>
     ensures keys { IfOk result (λ made. made.keys ≡ chain (B.looks bundle.now) key.now) }
-    ensures reads { IfOk result (λ made. made.reads ≡ ext_reads (ext_of key.now.name) ++ flat_map (key_reads (B.looks bundle.now)) (chain (B.looks bundle.now) key.now)) }
+    ensures reads { IfOk result (λ made. made.reads
+        ≡ ext_reads (ext_of key.now.name)
+        ++ flat_map (key_reads (B.looks bundle.now)) (chain (B.looks bundle.now) key.now)) }
     ensures sound { IfOk result (λ made. least_fault (chain_faults (B.looks bundle.now) key.now) ≡ None) }
     ensures fault { IfErr result (IsLeastFault (B.looks bundle.now) key.now) }
 {
@@ -79,10 +82,12 @@ fn sound_layers<'a, B: Shows>(
 ) -> Result<Heard<'a>, BuildError>
     requires keys { climbed.keys ≡ chain (B.looks bundle.now) key.now }
     requires sound { least_fault (chain_faults (B.looks bundle.now) key.now) ≡ None }
-    ensures speakers { IfOk result (λ made. map speaker_of made.speakers.items ≡ speakers (B.looks bundle.now) key.now) }
+    ensures speakers { IfOk result (λ made. map speaker_of made.speakers.items
+        ≡ speakers (B.looks bundle.now) key.now) }
     ensures rows { IfOk result (λ made. made.rows ≡ table_of (layers (B.looks bundle.now) key.now)) }
     ensures profiles { IfOk result (λ made. made.profiles ≡ profile_keys (layers (B.looks bundle.now) key.now)) }
-    ensures reads { IfOk result (λ made. made.reads ≡ climbed.reads ++ flat_map (speaker_reads (B.looks bundle.now)) (speakers (B.looks bundle.now) key.now)) }
+    ensures reads { IfOk result (λ made. made.reads
+        ≡ climbed.reads ++ flat_map (speaker_reads (B.looks bundle.now)) (speakers (B.looks bundle.now) key.now)) }
     ensures sound { IfOk result (λ made. least_fault (layers_faults (B.looks bundle.now) key.now) ≡ None) }
     ensures fault { IfErr result (IsLeastFault (B.looks bundle.now) key.now) }
 {
@@ -122,41 +127,40 @@ pub(crate) struct Compiled {
 
 /// The item whose files and layers these are, if nothing is wrong with it. The cells read come after those.
 fn sound_item<B: Shows>(
-    alloc: Global,
-    bundle: &B,
-    key: &Key,
+    site: &Site<'_, B>,
     up: Option<Text>,
-    files: &[Speaker<'_>],
-    rows: &[Spoken],
-    profiles: Row<Text>,
-    reads: Row<Cell>,
+    heard: Heard<'_>,
 ) -> Result<Compiled, BuildError>
-    requires up { up ≡ option_map (λ (p : Key). p.name) (parent (B.looks bundle.now) key.now) }
-    requires files { map speaker_of files.now ≡ speakers (B.looks bundle.now) key.now }
-    requires rows { rows.now ≡ table_of (layers (B.looks bundle.now) key.now) }
-    requires profiles { profiles ≡ profile_keys (layers (B.looks bundle.now) key.now) }
-    requires chain { least_fault (chain_faults (B.looks bundle.now) key.now) ≡ None }
-    requires layers { least_fault (layers_faults (B.looks bundle.now) key.now) ≡ None }
-    ensures item { IfOk result (λ made. made.item ≡ item (B.looks bundle.now) key.now) }
-    ensures reads { IfOk result (λ made. made.reads ≡ reads ++ category_reads (B.looks bundle.now) key.now
-        ++ flat_map (attribute_reads (B.looks bundle.now) (ext_of key.now.name)) (table_of (layers (B.looks bundle.now) key.now))) }
-    ensures sound { IfOk result (λ made. item_fault (B.looks bundle.now) key.now ≡ None) }
-    ensures fault { IfErr result (IsLeastFault (B.looks bundle.now) key.now) }
+    requires up { up ≡ option_map (λ (p : Key). p.name) (parent (B.looks site.now.bundle.now) site.now.key.now) }
+    requires files { map speaker_of heard.speakers.items ≡ speakers (B.looks site.now.bundle.now) site.now.key.now }
+    requires rows { heard.rows ≡ table_of (layers (B.looks site.now.bundle.now) site.now.key.now) }
+    requires profiles { heard.profiles ≡ profile_keys (layers (B.looks site.now.bundle.now) site.now.key.now) }
+    requires chain { least_fault (chain_faults (B.looks site.now.bundle.now) site.now.key.now) ≡ None }
+    requires layers { least_fault (layers_faults (B.looks site.now.bundle.now) site.now.key.now) ≡ None }
+    ensures item { IfOk result (λ made. made.item ≡ item (B.looks site.now.bundle.now) site.now.key.now) }
+    ensures reads { IfOk result (λ made. made.reads
+        ≡ heard.entry.reads ++ category_reads (B.looks site.now.bundle.now) site.now.key.now
+        ++ flat_map (attribute_reads (B.looks site.now.bundle.now) (ext_of site.now.key.now.name))
+        (table_of (layers (B.looks site.now.bundle.now) site.now.key.now))) }
+    ensures sound { IfOk result (λ made. item_fault (B.looks site.now.bundle.now) site.now.key.now ≡ None) }
+    ensures fault { IfErr result (IsLeastFault (B.looks site.now.bundle.now) site.now.key.now) }
 {
-    let parts = item_parts(alloc, bundle, key, files, rows, profiles, reads)?;
-    let Parts {
-        own,
-        category,
-        number,
-        lists,
-        attrs,
+    let Heard {
+        speakers,
+        rows,
+        profiles,
+        reads,
+    } = heard;
+    let met = item_parts(site, speakers.as_slice(), rows.as_slice(), profiles, reads)?;
+    let Met {
+        parts,
         reads,
         least,
-    } = parts;
+    } = met;
     match least {
         Some(fault) => Err(BuildError::Fault(fault)),
         None => {
-            let item = assembled(alloc, key, up, own, category, number, lists, attrs)?;
+            let item = assembled(site.alloc, site.key, up, parts)?;
             Ok(Compiled { item, reads })
         }
     }
@@ -192,23 +196,8 @@ pub(crate) fn compiled_item<B: Shows>(
         Ok(heard) => heard,
         Err(error) => return Err(error),
     };
-    let Heard {
-        speakers,
-        rows,
-        profiles,
-        reads,
-    } = heard;
-    let files = speakers.as_slice();
-    let made = sound_item(
-        alloc,
-        bundle,
-        key,
-        up,
-        files,
-        rows.as_slice(),
-        profiles,
-        reads,
-    );
+    let site = Site { alloc, bundle, key };
+    let made = sound_item(&site, up, heard);
     match made {
         Ok(made) => {
             let item = made.item;

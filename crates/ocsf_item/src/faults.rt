@@ -2,13 +2,22 @@
 ghost use Rattle.std.specs.Prelude.{◌≡◌, ◌++◌, IfOk, flat_map, codes};
 ghost use Rattle.ocsf_tree.specs.ByName.{IsByName};
 ghost use Rattle.ocsf_tree.specs.LeastFault.{least_from};
-ghost use Rattle.ocsf_rules.specs.ItemFaults.{fault, leads_fault, missing_category, absent_fault, activity_fault, activities_faults, size_fault, type_text};
+ghost use Rattle.ocsf_rules.specs.ItemFaults.{
+  fault,
+  leads_fault,
+  missing_category,
+  absent_fault,
+  activity_fault,
+  activities_faults,
+  size_fault,
+  type_text,
+};
 ghost use Rattle.ocsf_walk.specs.Typed.{type_lent};
 ghost use Rattle.std.specs.Option.{option_map};
 
+use crate::leads::Leads;
 use ocsf_merge::Spoken;
 use ocsf_rules::{Category, Written};
-use ocsf_schema::Target;
 use ocsf_tree::{Code, EnumMember, Fault, Key, Text, find_by_name};
 use ocsf_walk::{TypeLent, small_number, with_fault};
 use std::alloc::{AllocError, Global};
@@ -28,23 +37,22 @@ fn type_name(alloc: Global, name: &str, written: Option<TypeLent<'_>>) -> Result
 
 /// The least fault with that of an attribute, if it has one.
 pub(crate) fn with_attribute(
-    alloc: Global,
     least: Option<Fault>,
     key: &Key,
     name: &str,
-    there: bool,
-    target: &Option<Target>,
+    leads: &Leads,
     written: Option<TypeLent<'_>>,
 ) -> Result<Option<Fault>, AllocError>
-    ensures { IfOk result (λ made. made ≡ least_from least (leads_fault key.now name.now there target.now (option_map type_lent written.entry))) }
+    ensures { IfOk result (λ made. made ≡ least_from least
+        (leads_fault key.now name.now leads.now.there leads.now.target (option_map type_lent written.entry))) }
 {
-    if !there {
+    if !leads.there {
         return with_fault(least, Code::AttributeUnknown, key, name);
     }
-    if target.is_some() {
+    if leads.target.is_some() {
         return Ok(least);
     }
-    let name = type_name(alloc, name, written)?;
+    let name = type_name(key.name.allocator(), name, written)?;
     with_fault(least, Code::KindUnknown, key, name.as_str())
 }
 
@@ -159,7 +167,8 @@ pub(crate) fn with_rest(
     just_one: &[Text],
 ) -> Result<Option<Fault>, AllocError>
     requires { IsByName (λ row. row.attr.name) rows.now }
-    ensures { IfOk result (λ made. made ≡ least_from (least_from (least_from least (flat_map (absent_fault key.now rows.now) at_least_one.now))
+    ensures { IfOk result (λ made. made
+        ≡ least_from (least_from (least_from least (flat_map (absent_fault key.now rows.now) at_least_one.now))
         (flat_map (absent_fault key.now rows.now) just_one.now)) (size_fault key.now rows.now)) }
 {
     let least = with_constraints(least, key, rows, at_least_one)?;

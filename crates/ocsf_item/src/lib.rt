@@ -12,9 +12,11 @@ mod compile;
 mod dictionary;
 mod faults;
 mod join;
+mod leads;
 mod order;
 mod own;
 mod parts;
+mod site;
 
 pub use build::{Built, build_item};
 pub use build_error::BuildError;

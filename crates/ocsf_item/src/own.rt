@@ -3,7 +3,16 @@ ghost use Rattle.std.specs.Prelude.{◌≡◌, ◌≤◌, [], IfOk, IfSome, None
 ghost use Rattle.std.specs.Option.{option_map_or, option_and_then, option_copied};
 ghost use Rattle.ocsf_tree.specs.ByName.{IsByName, at_name};
 ghost use Rattle.ocsf_rules.specs.Chain.{own_file};
-ghost use Rattle.ocsf_rules.specs.Compiled.{caption, description, caption_or_key, uid, is_hidden, is_class, starts_low, enumeration};
+ghost use Rattle.ocsf_rules.specs.Compiled.{
+  caption,
+  description,
+  caption_or_key,
+  uid,
+  is_hidden,
+  is_class,
+  starts_low,
+  enumeration,
+};
 
 use crate::attribute::members_of;
 use crate::dictionary::dict_said;
@@ -27,7 +36,8 @@ pub(crate) struct Own {
 /// The number of a class, as its file gives it.
 fn uid_of(key: &Key, file: Option<&ItemFile>) -> Option<u32>
     requires { IfSome file (λ file. IfSome file.now.uid (λ uid. uid ≤ 999)) }
-    ensures uid { result ≡ (if is_class key.now then option_and_then (λ file. file.uid) (option_copied file.entry) else None) }
+    ensures uid { result
+        ≡ (if is_class key.now then option_and_then (λ file. file.uid) (option_copied file.entry) else None) }
     ensures range { IfSome result (λ uid. uid ≤ 999) }
 {
     if !is_class(key) {
@@ -64,7 +74,8 @@ fn is_low(name: &str) -> bool
 
 /// Whether an item with that number and that file is hidden.
 fn hidden(key: &Key, uid: Option<u32>, file: Option<&ItemFile>) -> bool
-    ensures { result ≡ (if is_class key.now then is_none uid else option_map_or starts_low (option_and_then (λ file. file.name) (option_copied file.entry)) false) }
+    ensures { result ≡ (if is_class key.now then is_none uid
+        else option_map_or starts_low (option_and_then (λ file. file.name) (option_copied file.entry)) false) }
 {
     if is_class(key) {
         uid.is_none()
@@ -124,7 +135,9 @@ pub(crate) fn activities<B: Shows>(
     rows: &[Spoken],
 ) -> Result<Row<EnumMember>, AllocError>
     requires { IsByName (λ row. row.attr.name) rows.now }
-    ensures { IfOk result (λ made. made ≡ option_map_or (enumeration (B.looks bundle.now)) (at_name (λ row. row.attr.name) (codes "activity_id") rows.now) []) }
+    ensures { IfOk result (λ made. made
+        ≡ option_map_or (enumeration (B.looks bundle.now))
+        (at_name (λ row. row.attr.name) (codes "activity_id") rows.now) []) }
 {
     match find_by_name(rows, "activity_id") {
         Some(row) => enumeration(alloc, bundle, row),

@@ -16,19 +16,23 @@ abbrev pub AreLinesDecided : Edited → List (List ℕ) → Type 0
 AreLinesDecided old [] = ⊤
 AreLinesDecided old (line ∷ lines) =
     ((new : Stored) → LeadsTo old line new → AreDecided (types_of new))
-    × ((reply : List ℕ) (is_refused : Bool) (next : Edited) → EditStep old line reply is_refused next → AreLinesDecided next lines)
+    × ((reply : List ℕ) (is_refused : Bool) (next : Edited) → EditStep old line reply is_refused next
+    → AreLinesDecided next lines)
 
 -- two whole outputs of `edits` over the same bytes are one text, and tell the same of whether a line was refused
 abbrev pub HasOneOutput : Type 0
 HasOneOutput = (bytes one other : List ℕ) (is_refused was_refused : Bool) → AreLinesDecided no_edits (lines_of bytes)
-    → EditsOutput bytes one is_refused → EditsOutput bytes other was_refused → (one ≡ other) × (is_refused ≡ was_refused)
+    → EditsOutput bytes one is_refused → EditsOutput bytes other was_refused
+    → (one ≡ other) × (is_refused ≡ was_refused)
 
 -- two whole outputs of `compile` over the same folder are one text, and tell the same of whether it was refused
 abbrev pub CompileHasOneOutput : Type 0
 CompileHasOneOutput = (dir : List ℕ) (lying : List KeptFile) (one other : List ℕ) (is_refused was_refused : Bool)
     → ((files : List StoredFile) → AreFilesOf dir lying files → AreDecided (types_of (all_enabled files)))
-    → CompileOutput dir lying one is_refused → CompileOutput dir lying other was_refused → (one ≡ other) × (is_refused ≡ was_refused)
+    → CompileOutput dir lying one is_refused → CompileOutput dir lying other was_refused
+    → (one ≡ other) × (is_refused ≡ was_refused)
 
 -- whatever a folder lists, it comes to a printed schema or to a fault
 abbrev pub HasSomeSchema : Type 0
-HasSomeSchema = (dir : List ℕ) (lying : List KeptFile) (listed : List (List ℕ)) → IsListing dir lying listed → (made : Result (List ℕ) Fault) × IsCompiled dir lying made
+HasSomeSchema = (dir : List ℕ) (lying : List KeptFile) (listed : List (List ℕ)) → IsListing dir lying listed
+    → (made : Result (List ℕ) Fault) × IsCompiled dir lying made

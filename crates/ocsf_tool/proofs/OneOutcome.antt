@@ -15,7 +15,7 @@ use Rattle.ocsf_bundle.specs.Edits.{IsEdit}
 use Rattle.ocsf_bundle.specs.After.{IsAfter}
 use Rattle.ocsf_bundle.specs.Stored.{Stored}
 use Rattle.ocsf_bundle.proofs.OneAfter.{one_edit_or_fault, one_after}
-use Rattle.ocsf_rules.specs.Judgement as item
+use Rattle.ocsf_rules.specs.Judgement.{IsJudged, IsJudgement, revision_fault}
 use Rattle.ocsf_rules.specs.Verdict.{types_of, AreDecided}
 use Rattle.ocsf_rule_laws.proofs.OneVerdict.{one_verdict}
 use Rattle.ocsf_tool.specs.Edits.{Edited, IsChangesOutcome, IsSaidOutcome, IsTreeOutcome, IsReadOutcome, IsLineOutcome, max_edit}
@@ -38,7 +38,7 @@ inside_ok x y e = cc
 made_not_memory : (x : Stored) → made_ok x ≡ Err error.Memory → ⊥
 made_not_memory x e = cc
 
-judged_not_memory : (revision : ℕ) (made : Result Stored RawError) (v : Option Fault) → item.IsJudged revision made v → made ≡ Err error.Memory → ⊥
+judged_not_memory : (revision : ℕ) (made : Result Stored RawError) (v : Option Fault) → IsJudged revision made v → made ≡ Err error.Memory → ⊥
 judged_not_memory revision (Ok new) v j e = cc
 judged_not_memory revision (Err (error.Fault f)) v j e = cc
 judged_not_memory revision (Err error.Memory) v j e = j
@@ -62,18 +62,19 @@ module _ (old : Edited) (line : List ℕ) (decided : (new : Stored) → LeadsTo 
     leads new after = record { tree = tree; reads = reads; edit = edit; says = says; after = after }
 
     one_judged : (made : Result Stored RawError) → IsAfter old.bundle edit.changes made → (v w : Option Fault)
-        → item.IsJudged old.revision made v → item.IsJudged old.revision made w → v ≡ w
+        → IsJudged old.revision made v → IsJudged old.revision made w → v ≡ w
     one_judged (Ok new) after v w (x, is_x, ex) (y, is_y, ey) =
         ex
-        ∙ ap (λ (verdict : Option Fault). option_or verdict (item.revision_fault old.revision)) (one_verdict new x y (decided new (leads new after)) is_x is_y)
+        ∙ ap (λ (verdict : Option Fault). option_or verdict (revision_fault old.revision)) (one_verdict new x y (decided new (leads new after)) is_x is_y)
         ∙ sym ey
     one_judged (Err (error.Fault own)) after v w a b = a ∙ sym b
     one_judged (Err error.Memory) after v w a b = absurd a
 
-    one_judgement : (v w : Option Fault) → item.IsJudgement old.bundle old.revision edit.changes v → item.IsJudgement old.bundle old.revision edit.changes w → v ≡ w
+    one_judgement : (v w : Option Fault) → IsJudgement old.bundle old.revision edit.changes v
+        → IsJudgement old.bundle old.revision edit.changes w → v ≡ w
     one_judgement v w (made, after, judged) (other, later, found) =
         let same : made ≡ other = one_after old.bundle edit.changes made other after later (judged_not_memory old.revision made v judged) (judged_not_memory old.revision other w found) in
-        one_judged made after v w judged (subst (λ (m : Result Stored RawError). item.IsJudged old.revision m w) (sym same) found)
+        one_judged made after v w judged (subst (λ (m : Result Stored RawError). IsJudged old.revision m w) (sym same) found)
 
     same_bundle : (x y : Stored) → IsAfter old.bundle edit.changes (Ok x) → IsAfter old.bundle edit.changes (Ok y) → x ≡ y
     same_bundle x y a b = inside_ok x y (one_after old.bundle edit.changes (Ok x) (Ok y) a b (made_not_memory x) (made_not_memory y))

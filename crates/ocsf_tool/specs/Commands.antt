@@ -1,10 +1,39 @@
 -- The commands: what the words name, what a command calls, and how it may end.
-use Rattle.std.specs.Prelude.{◌≡◌, ◌≢◌, ℕ, ◌==◌, not, Bool, true, false, List, [], ◌∷◌, codes, Option, Some, None, if◌then◌else◌}
+use Rattle.std.specs.Prelude.{
+  ◌≡◌,
+  ◌≢◌,
+  ℕ,
+  ◌==◌,
+  not,
+  Bool,
+  true,
+  false,
+  List,
+  [],
+  ◌∷◌,
+  codes,
+  Option,
+  Some,
+  None,
+  if◌then◌else◌,
+}
 use Rattle.std.specs.Option.{option_map_or}
 use Rattle.std.specs.Str.{bytes_eq}
 use Rattle.ocsf_edge.specs.Faults.{Rose}
 use Rattle.ocsf_tool.specs.declared.status.Status.{Status}
-use Rattle.ocsf_tool.specs.declared.status.Status.TheVariants.{Done, Flawed, Usage, InputRefused, ReadFault, WriteFault, Memory, KeeperFault, FolderFault, Limit, AcceptFault}
+use Rattle.ocsf_tool.specs.declared.status.Status.TheVariants.{
+  Done,
+  Flawed,
+  Usage,
+  InputRefused,
+  ReadFault,
+  WriteFault,
+  Memory,
+  KeeperFault,
+  FolderFault,
+  Limit,
+  AcceptFault,
+}
 
 -- ---- what the words name
 

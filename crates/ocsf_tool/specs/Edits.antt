@@ -1,5 +1,26 @@
 -- The command `edits`: what each line is answered, and what it leaves.
-use Rattle.std.specs.Prelude.{◌≡◌, ℕ, ◌+◌, ◌≤◌, ◌<◌, ◌^◌, List, [], ◌∷◌, ◌++◌, length, Bool, codes, pos, is_err, Some, None, Result, Ok, Err}
+use Rattle.std.specs.Prelude.{
+  ◌≡◌,
+  ℕ,
+  ◌+◌,
+  ◌≤◌,
+  ◌<◌,
+  ◌^◌,
+  List,
+  [],
+  ◌∷◌,
+  ◌++◌,
+  length,
+  Bool,
+  codes,
+  pos,
+  is_err,
+  Some,
+  None,
+  Result,
+  Ok,
+  Err,
+}
 use Rattle.ocsf_tree.specs.declared.tree.Tree.{Tree}
 use Rattle.ocsf_tree.specs.declared.tree.Tree.TheVariants as tree
 use Rattle.ocsf_tree.specs.declared.tree.Member.{Member}
@@ -21,16 +42,14 @@ use Rattle.ocsf_bundle.specs.Edits.{IsEdit}
 use Rattle.ocsf_bundle.specs.After.{IsAfter}
 use Rattle.ocsf_bundle.specs.Stored.{Stored}
 use Rattle.ocsf_rules.specs.Compilation.{compilation}
-use Rattle.ocsf_rules.specs.Judgement as item
+use Rattle.ocsf_rules.specs.Judgement.{IsJudgement}
+use Rattle.ocsf_compiler.specs.NoFiles.{no_files}
 use Rattle.ocsf_lines.specs.Run.{Output, Replies}
 
 -- what stands between two lines: the files with the enabled extensions, and how many edits were accepted
 pub record Edited : Type 0 where
   pub bundle : Stored
   pub revision : ℕ
-
-abbrev pub no_files : Stored
-no_files = record { files = []; enabled = [] }
 
 abbrev pub no_edits : Edited
 no_edits = record { bundle = no_files; revision = 0 }
@@ -43,8 +62,9 @@ line_fault code name = record { code = code; subject = []; name = name }
 
 -- the changes are accepted, and leave this, exactly where their judgement finds no fault; or they are refused by it
 abbrev pub IsChangesOutcome : Edited → List Change → Result Stored Fault → Type 0
-IsChangesOutcome old changes (Ok new) = IsAfter old.bundle changes (Ok new) × item.IsJudgement old.bundle old.revision changes None
-IsChangesOutcome old changes (Err fault) = item.IsJudgement old.bundle old.revision changes (Some fault)
+IsChangesOutcome old changes (Ok new) =
+    IsAfter old.bundle changes (Ok new) × IsJudgement old.bundle old.revision changes None
+IsChangesOutcome old changes (Err fault) = IsJudgement old.bundle old.revision changes (Some fault)
 
 -- of what a tree says
 abbrev pub IsSaidOutcome : Edited → Result Edit RawError → Result Stored Fault → Type 0
@@ -61,7 +81,8 @@ pub record IsTreeOutcome (old : Edited) (tree : Tree) (outcome : Result Stored F
 abbrev pub IsReadOutcome : Edited → Result Tree TreeError → Result Stored Fault → Type 0
 IsReadOutcome old (Ok tree) outcome = IsTreeOutcome old tree outcome
 IsReadOutcome old (Err NotJson) outcome = outcome ≡ Err (line_fault code.NotJson [])
-IsReadOutcome old (Err (NumberNotWhole place)) outcome = outcome ≡ Err (line_fault code.NumberNotWhole (pointer_text place.steps))
+IsReadOutcome old (Err (NumberNotWhole place)) outcome =
+    outcome ≡ Err (line_fault code.NumberNotWhole (pointer_text place.steps))
 IsReadOutcome old (Err Memory) outcome = ⊥
 
 pub record IsLineOutcome (old : Edited) (line : List ℕ) (outcome : Result Stored Fault) : Type 0 where
@@ -77,7 +98,7 @@ abbrev pub too_long : Fault
 too_long = line_fault code.Limit (codes "edit")
 
 -- a longer line is refused unread
-pub record IsJudgement (old : Edited) (line : List ℕ) (outcome : Result Stored Fault) : Type 0 where
+pub record IsLineJudgement (old : Edited) (line : List ℕ) (outcome : Result Stored Fault) : Type 0 where
   pub long : max_edit < length line → outcome ≡ Err too_long
   pub short : length line ≤ max_edit → IsLineOutcome old line outcome
 
@@ -109,10 +130,11 @@ abbrev pub after_line : Edited → Result Stored Fault → Edited
 after_line old (Ok new) = record { bundle = new; revision = old.revision + 1 }
 after_line old (Err fault) = old
 
--- A line is judged at the files and the revision before it; the reply says how, and the next line comes after what was accepted.
+-- A line is judged at the files and the revision before it; the reply says how, and the next line comes after what was
+-- accepted.
 pub record EditStep (old : Edited) (line reply : List ℕ) (is_refused : Bool) (new : Edited) : Type 0 where
   pub outcome : Result Stored Fault
-  pub judged : IsJudgement old line outcome
+  pub judged : IsLineJudgement old line outcome
   pub replied : reply ≡ text (reply_tree old.revision outcome) ++ 10 ∷ []
   pub refused : is_refused ≡ is_err outcome
   pub left : new ≡ after_line old outcome
@@ -121,7 +143,8 @@ pub record EditStep (old : Edited) (line reply : List ℕ) (is_refused : Bool) (
 abbrev pub edits_print : Edited → List ℕ
 edits_print edited = schema_text (compilation edited.bundle)
 
--- The whole output of `edits` over these bytes: a reply to each line, and then the printed schema. Tells whether a line was refused.
+-- The whole output of `edits` over these bytes: a reply to each line, and then the printed schema. Tells whether a line
+-- was refused.
 abbrev pub EditsOutput : List ℕ → List ℕ → Bool → Type 0
 EditsOutput bytes out is_refused = Output EditStep edits_print no_edits bytes out is_refused
 

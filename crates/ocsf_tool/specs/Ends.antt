@@ -8,7 +8,15 @@ use Rattle.ocsf_tool.specs.declared.words.Command.{Command as Named}
 use Rattle.ocsf_tool.specs.declared.words.Command.TheVariants.{Edits as NamesEdits, Compile as NamesCompile}
 use Rattle.ocsf_tool.specs.Commands.{Command, Edits, Compile}
 use Rattle.ocsf_tool.specs.declared.status.Status.{Status}
-use Rattle.ocsf_tool.specs.declared.status.Status.TheVariants.{Done, Flawed, InputRefused, ReadFault, WriteFault, Memory, Limit}
+use Rattle.ocsf_tool.specs.declared.status.Status.TheVariants.{
+  Done,
+  Flawed,
+  InputRefused,
+  ReadFault,
+  WriteFault,
+  Memory,
+  Limit,
+}
 
 abbrev pub named_command : Named → Command
 named_command NamesEdits = Edits

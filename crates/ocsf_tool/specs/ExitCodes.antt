@@ -1,7 +1,19 @@
 -- The exit status that tells how a run ended.
 use Rattle.std.specs.Prelude.{ℕ}
 use Rattle.ocsf_tool.specs.declared.status.Status.{Status}
-use Rattle.ocsf_tool.specs.declared.status.Status.TheVariants.{Done, Flawed, Usage, InputRefused, ReadFault, WriteFault, Memory, KeeperFault, FolderFault, Limit, AcceptFault}
+use Rattle.ocsf_tool.specs.declared.status.Status.TheVariants.{
+  Done,
+  Flawed,
+  Usage,
+  InputRefused,
+  ReadFault,
+  WriteFault,
+  Memory,
+  KeeperFault,
+  FolderFault,
+  Limit,
+  AcceptFault,
+}
 
 abbrev pub exit_code : Status → ℕ
 exit_code Done = 0

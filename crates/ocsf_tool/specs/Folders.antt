@@ -1,5 +1,29 @@
 -- The command `compile`: the files of a folder, and the schema or the fault that they come to.
-use Rattle.std.specs.Prelude.{◌≡◌, ℕ, ◌≤◌, ◌<◌, ◌^◌, ◌⊎◌, List, [], ◌∷◌, ◌++◌, length, map, filter, All, Bool, codes, is_err, Option, Some, None, Result, Ok, Err}
+use Rattle.std.specs.Prelude.{
+  ◌≡◌,
+  ℕ,
+  ◌≤◌,
+  ◌<◌,
+  ◌^◌,
+  ◌⊎◌,
+  List,
+  [],
+  ◌∷◌,
+  ◌++◌,
+  length,
+  map,
+  filter,
+  All,
+  Bool,
+  codes,
+  is_err,
+  Option,
+  Some,
+  None,
+  Result,
+  Ok,
+  Err,
+}
 use Rattle.std.specs.Option.{option_map}
 use Rattle.std.specs.List.{filter_map}
 use Rattle.std.specs.Io.KnownBytes.{Appends}
@@ -41,7 +65,8 @@ IsShapedAs path tree (Err fault) = IsStoredAs path tree (Err (error.Fault fault)
 abbrev pub IsReadAs : List ℕ → Result Tree TreeError → Result StoredFile Fault → Type 0
 IsReadAs path (Ok tree) made = IsShapedAs path tree made
 IsReadAs path (Err NotJson) made = made ≡ Err (file_fault code.NotJson path [])
-IsReadAs path (Err (NumberNotWhole place)) made = made ≡ Err (file_fault code.NumberNotWhole path (pointer_text place.steps))
+IsReadAs path (Err (NumberNotWhole place)) made =
+    made ≡ Err (file_fault code.NumberNotWhole path (pointer_text place.steps))
 IsReadAs path (Err Memory) made = ⊥
 
 pub record IsWritten (path bytes : List ℕ) (made : Result StoredFile Fault) : Type 0 where
@@ -65,12 +90,14 @@ abbrev pub IsFileOf : List ℕ → List KeptFile → StoredFile → Type 0
 IsFileOf dir lying file = IsFile file.path (body_at dir file.path lying) (Ok file)
 
 -- the files at these paths, each of them without a fault
-pub record AreFilesAt (dir : List ℕ) (lying : List KeptFile) (paths : List (List ℕ)) (files : List StoredFile) : Type 0 where
+pub record AreFilesAt (dir : List ℕ) (lying : List KeptFile) (paths : List (List ℕ))
+    (files : List StoredFile) : Type 0 where
   pub paths_of : map stored_path files ≡ paths
   pub each : All (IsFileOf dir lying) files
 
 -- the first of these paths with a fault has this one: the files before it have none
-pub record IsFirstFileFault (dir : List ℕ) (lying : List KeptFile) (paths : List (List ℕ)) (fault : Fault) : Type 0 where
+pub record IsFirstFileFault (dir : List ℕ) (lying : List KeptFile) (paths : List (List ℕ))
+    (fault : Fault) : Type 0 where
   pub before : List StoredFile
   pub path : List ℕ
   pub after : List (List ℕ)

@@ -1,6 +1,6 @@
--- What a run has written, by the command and by how it ended. A command says what it writes when it has answered all, what
--- answers whole lines, when its source was read out, and what it leaves at want of memory; how these go with the ends is said
--- once for all commands.
+-- What a run has written, by the command and by how it ended. A command says what it writes when it has answered all,
+-- what answers whole lines, when its source was read out, and what it leaves at want of memory; how these go with the
+-- ends is said once for all commands.
 use Rattle.std.specs.Prelude.{◌≡◌, ℕ, ◌^◌, List, [], ◌++◌, length, Bool, true, false, Option, IfSome, ⊤}
 use Rattle.std.specs.Io.KnownBytes.{IsAtEnd}
 use Rattle.ocsf_edge.specs.declared.records.Kept.{Kept}
@@ -10,10 +10,22 @@ use Rattle.ocsf_tool.specs.Commands.{Command, Edits, Compile}
 use Rattle.ocsf_tool.specs.Edits.{EditsOutput, EditsReplies}
 use Rattle.ocsf_tool.specs.Folders.{CompileOutput}
 use Rattle.ocsf_tool.specs.declared.status.Status.{Status}
-use Rattle.ocsf_tool.specs.declared.status.Status.TheVariants.{Done, Flawed, Usage, InputRefused, ReadFault, WriteFault, Memory, KeeperFault, FolderFault, Limit, AcceptFault}
+use Rattle.ocsf_tool.specs.declared.status.Status.TheVariants.{
+  Done,
+  Flawed,
+  Usage,
+  InputRefused,
+  ReadFault,
+  WriteFault,
+  Memory,
+  KeeperFault,
+  FolderFault,
+  Limit,
+  AcceptFault,
+}
 
--- What the objects tell: the files of the folder and the keeper's tables before the run, and after it the keeper's tables,
--- whether the source has ended, and what is left of it.
+-- What the objects tell: the files of the folder and the keeper's tables before the run, and after it the keeper's
+-- tables, whether the source has ended, and what is left of it.
 pub record Told : Type 0 where
   pub files : Option (List KeptFile)
   pub tables : Option Kept
@@ -74,6 +86,7 @@ is_silent (Compile dir) Memory = true
 is_silent _ _ = false
 
 -- What passed between the source and the sink in a run.
-abbrev pub Ran : Command → Told → Status → Option (List ℕ) → Option (List ℕ) → Option (List ℕ) → Option (List ℕ) → Type 0
+abbrev pub Ran : Command → Told → Status → Option (List ℕ) → Option (List ℕ) → Option (List ℕ) → Option (List ℕ)
+    → Type 0
 Ran command told status left_old left_new written_old written_new =
     Exchange left_old left_new written_old written_new (Wrote command told status)

@@ -1,7 +1,16 @@
 // The one call of the program.
 ghost use Rattle.std.specs.Prelude.{◌≡◌, ◌↔◌, true, false, None, IfSome};
 ghost use Rattle.ocsf_edge.specs.Faults.{Rose};
-ghost use Rattle.ocsf_tool.specs.Commands.{FailedOnlyAt, calls, command_of, is_no_fault, may_end, reads_folder, reads_source, uses_keeper};
+ghost use Rattle.ocsf_tool.specs.Commands.{
+  FailedOnlyAt,
+  calls,
+  command_of,
+  is_no_fault,
+  may_end,
+  reads_folder,
+  reads_source,
+  uses_keeper,
+};
 ghost use Rattle.ocsf_tool.specs.Outputs.{Ran, is_silent};
 
 use crate::Status;
@@ -34,8 +43,10 @@ pub fn run<S: Source, K: Sink, F: Folder, P: Keeper>(
     // A fault is the object's own, and at no other end has that object failed.
     ensures reads { FailedOnlyAt Status.ReadFault result (S.read_faults source.old) (S.read_faults source.new) }
     ensures writes { FailedOnlyAt Status.WriteFault result (K.write_faults sink.old) (K.write_faults sink.new) }
-    ensures listings { FailedOnlyAt Status.FolderFault result (F.folder_faults folder.old) (F.folder_faults folder.new) }
-    ensures stores { FailedOnlyAt Status.KeeperFault result (P.keeper_faults _keeper.old) (P.keeper_faults _keeper.new) }
+    ensures listings { FailedOnlyAt Status.FolderFault result
+        (F.folder_faults folder.old) (F.folder_faults folder.new) }
+    ensures stores { FailedOnlyAt Status.KeeperFault result
+        (P.keeper_faults _keeper.old) (P.keeper_faults _keeper.new) }
 
     // What was written stands to the bytes taken, the folder and the keeper as the command and the end say.
     ensures ran { IfSome (command_of words.now) (λ command. Ran command

@@ -3,12 +3,11 @@ ghost use Rattle.std.specs.Prelude.{◌≡◌, None, IfOk, IfErr, OnOk};
 ghost use Rattle.ocsf_rules.specs.Compilation.{IsCompilation};
 ghost use Rattle.ocsf_rules.specs.Verdict.{IsVerdict};
 ghost use Rattle.ocsf_compiler.specs.Compiles.{IsRefusedFor};
-ghost use Rattle.ocsf_tool.specs.Edits.{no_files};
+ghost use Rattle.ocsf_compiler.specs.NoFiles.{no_files};
 
 use ocsf_bundle::Bundle;
-use ocsf_compiler::{CompileError, compile, parts_of, types_of};
+use ocsf_compiler::{CompileError, compile, empty_schema};
 use ocsf_schema::{Schema, Steps};
-use ocsf_tree::Row;
 use std::alloc::{AllocError, Global};
 use std::marker::Brand;
 use std::sync::ledger::{Blank, Ledger};
@@ -43,17 +42,6 @@ pub fn schema_of(alloc: Global, bundle: &Bundle) -> Result<Schema, CompileError>
     counted::<Brand>(alloc, bundle, Blank::new(1))
 }
 
-/// The schema of no files, which has no items.
-fn schema_of_no_files(alloc: Global, bundle: &Bundle) -> Result<Schema, AllocError>
-    requires files { bundle.now ≡ no_files }
-    ensures schema { IfOk result (IsCompilation bundle.now) }
-{
-    let types = types_of(alloc, bundle)?;
-    let parts = parts_of(alloc, bundle, types.as_slice(), Row::new(alloc))?;
-    let schema = Schema::of(alloc, parts)?;
-    Ok(schema)
-}
-
 impl Compilation {
     /// The bundle, compiled from scratch.
     pub fn of(alloc: Global, bundle: Bundle, revision: u32) -> Result<Compilation, CompileError>
@@ -75,8 +63,8 @@ impl Compilation {
         ensures bundle { IfOk result (λ made. made.bundle ≡ no_files) }
         ensures revision { IfOk result (λ made. made.revision ≡ 0) }
     {
+        let schema = empty_schema(alloc)?;
         let bundle = Bundle::empty(alloc);
-        let schema = schema_of_no_files(alloc, &bundle)?;
         Ok(Compilation {
             bundle,
             schema,

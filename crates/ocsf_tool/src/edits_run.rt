@@ -28,7 +28,8 @@ fn lines_status(end: LinesEnd) -> Status
 pub fn run_edits<S: Source, K: Sink>(alloc: Global, source: &mut S, sink: &mut K) -> Status
     ensures ends { may_end EditsNamed result ≡ true }
     // Whatever the other objects tell.
-    ensures ran { (told : Told) → Ran EditsNamed (record told { ended = S.has_ended source.new; left = S.left source.new })
+    ensures ran { (told : Told)
+        → Ran EditsNamed (record told { ended = S.has_ended source.new; left = S.left source.new })
         result (S.left source.old) (S.left source.new) (K.written sink.old) (K.written sink.new) }
     ensures limit_open { result ≡ Status.Limit → S.has_ended source.new ≡ S.has_ended source.old }
     ensures reads { FailedOnlyAt Status.ReadFault result (S.read_faults source.old) (S.read_faults source.new) }

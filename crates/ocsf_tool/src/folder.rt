@@ -7,7 +7,16 @@ ghost use Rattle.ocsf_raw.specs.Forms.{has_form};
 ghost use Rattle.ocsf_bundle.specs.Stored.{stored_path, IsStoredSound, AreFilesSound};
 ghost use Rattle.ocsf_bundle.specs.Listing.{in_byte_order};
 ghost use Rattle.ocsf_tool.specs.Folders.{file_fault, extension_name, IsWritten, IsFile};
-ghost use Rattle.ocsf_tool.specs.FolderParts.{HasFolderCause, formed, if_formed, IsMade, IsGot, AreFilesOrFault, IsBundleOrFault, IsSchemaOrFault};
+ghost use Rattle.ocsf_tool.specs.FolderParts.{
+  HasFolderCause,
+  formed,
+  if_formed,
+  IsMade,
+  IsGot,
+  AreFilesOrFault,
+  IsBundleOrFault,
+  IsSchemaOrFault,
+};
 
 use crate::compilation::schema_of;
 use crate::folder_error::FolderError;

@@ -21,7 +21,8 @@ use std::alloc::Global;
 
 /// Writes the line that refuses a folder.
 fn write_refusal<K: Sink>(alloc: Global, fault: &Fault, sink: &mut K) -> Result<(), Fail>
-    ensures ok { OnOk result (Appends (K.written sink.old) (K.written sink.new) (text (refused_tree fault.now) ++ 10 ∷ [])) }
+    ensures ok { OnOk result (Appends (K.written sink.old) (K.written sink.new)
+        (text (refused_tree fault.now) ++ 10 ∷ [])) }
     ensures failed { IsErrOf result fail.Failed
         → AppendsPrefix (K.written sink.old) (K.written sink.new) (text (refused_tree fault.now) ++ 10 ∷ []) }
     ensures nothing { IsErrOf result fail.Memory → sink.new ≡ sink.old }
@@ -57,7 +58,8 @@ pub fn run_compile<K: Sink, F: Folder>(
     ensures ran { (told : Told) (taken : List ℕ) → Written (K.written sink.old) (K.written sink.new)
         (λ out. Wrote (Compile dir.now) (record told { files = F.files folder.old }) result taken out) }
     ensures silent { is_silent (Compile dir.now) result ≡ true → sink.new ≡ sink.old }
-    ensures listings { FailedOnlyAt Status.FolderFault result (F.folder_faults folder.old) (F.folder_faults folder.new) }
+    ensures listings { FailedOnlyAt Status.FolderFault result
+        (F.folder_faults folder.old) (F.folder_faults folder.new) }
     ensures writes { FailedOnlyAt Status.WriteFault result (K.write_faults sink.old) (K.write_faults sink.new) }
 {
     match compile_folder(alloc, folder, dir) {

@@ -4,7 +4,7 @@ ghost use Rattle.ocsf_tree.specs.Valid.{IsValid};
 ghost use Rattle.ocsf_bundle.specs.Edits.{IsValidChange};
 ghost use Rattle.ocsf_rules.specs.Judgement.{last_revision};
 ghost use Rattle.ocsf_rules.specs.Verdict.{IsVerdict};
-ghost use Rattle.ocsf_tool.specs.Edits.{IsChangesOutcome, IsTreeOutcome, IsLineOutcome, IsJudgement, line_fault};
+ghost use Rattle.ocsf_tool.specs.Edits.{IsChangesOutcome, IsTreeOutcome, IsLineOutcome, IsLineJudgement, line_fault};
 ghost use Rattle.ocsf_tool.specs.Judging.{IsBundleOutcome};
 ghost use Rattle.ocsf_tool.specs.Outcomes.{outcome_of, NumbersNext};
 
@@ -74,8 +74,8 @@ fn judge_bundle(alloc: Global, bundle: Bundle, revision: u32) -> Result<Outcome,
 /// Judges the changes of an edit.
 fn judge_edit(alloc: Global, now: &Compilation, edit: &Edit) -> Result<Outcome, AllocError>
     requires { All IsValidChange edit.now.changes }
-    ensures outcome { IfOk result (λ outcome. IsChangesOutcome (record { bundle = now.now.bundle; revision = now.now.revision })
-        edit.now.changes (outcome_of outcome)) }
+    ensures outcome { IfOk result (λ outcome. IsChangesOutcome
+        (record { bundle = now.now.bundle; revision = now.now.revision }) edit.now.changes (outcome_of outcome)) }
     ensures next { IfOk result (NumbersNext now.now.revision) }
 {
     match now.bundle.after(edit) {
@@ -91,8 +91,8 @@ fn judge_edit(alloc: Global, now: &Compilation, edit: &Edit) -> Result<Outcome, 
 /// Judges a tree as an edit.
 fn judge_tree(alloc: Global, now: &Compilation, tree: &Tree) -> Result<Outcome, AllocError>
     requires { IsValid tree.now }
-    ensures outcome { IfOk result (λ outcome. IsTreeOutcome (record { bundle = now.now.bundle; revision = now.now.revision })
-        tree.now (outcome_of outcome)) }
+    ensures outcome { IfOk result (λ outcome. IsTreeOutcome
+        (record { bundle = now.now.bundle; revision = now.now.revision }) tree.now (outcome_of outcome)) }
     ensures next { IfOk result (NumbersNext now.now.revision) }
 {
     match edit_of(alloc, tree) {
@@ -107,8 +107,8 @@ fn judge_tree(alloc: Global, now: &Compilation, tree: &Tree) -> Result<Outcome, 
 
 /// Judges a line that isn't too long.
 fn judge_text(alloc: Global, now: &Compilation, line: &[u8]) -> Result<Outcome, AllocError>
-    ensures outcome { IfOk result (λ outcome. IsLineOutcome (record { bundle = now.now.bundle; revision = now.now.revision })
-        line.now (outcome_of outcome)) }
+    ensures outcome { IfOk result (λ outcome. IsLineOutcome
+        (record { bundle = now.now.bundle; revision = now.now.revision }) line.now (outcome_of outcome)) }
     ensures next { IfOk result (NumbersNext now.now.revision) }
 {
     match read(alloc, line) {
@@ -140,8 +140,8 @@ fn is_longer(line: &[u8], most: usize) -> bool
 
 /// Judges a line. What stands now stays as it is.
 pub fn judge(alloc: Global, now: &Compilation, line: &[u8]) -> Result<Outcome, AllocError>
-    ensures judgement { IfOk result (λ outcome. IsJudgement (record { bundle = now.now.bundle; revision = now.now.revision })
-        line.now (outcome_of outcome)) }
+    ensures judgement { IfOk result (λ outcome. IsLineJudgement
+        (record { bundle = now.now.bundle; revision = now.now.revision }) line.now (outcome_of outcome)) }
     ensures next { IfOk result (NumbersNext now.now.revision) }
 {
     if is_longer(line, MOST_EDIT) {

@@ -1,8 +1,8 @@
 // What holds of every line, folder and run, whatever program runs. The functions do nothing: each contract is a law.
 ghost use Rattle.ocsf_tool.specs.Laws.{HasOneOutcome, HasOneSchema, LimitTakesItsBytes};
 
-/// A line is accepted with one bundle or refused by one fault, where each pattern of the bundle that it leads to is one that
-/// `regex` reads and that doesn't nest too deep, or one that it doesn't read.
+/// A line is accepted with one bundle or refused by one fault, where each pattern of the bundle that it leads to is one
+/// that `regex` reads and that doesn't nest too deep, or one that it doesn't read.
 pub fn a_line_has_one_outcome()
     ensures { HasOneOutcome }
 {}

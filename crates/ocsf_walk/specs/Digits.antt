@@ -13,4 +13,5 @@ small_number key = if is_small_decimal key then Some (digits_value 10 key) else 
 
 abbrev pub numbered_by : Option ℕ → List ℕ → Option Category → List EnumMember → Option Numbered
 numbered_by number caption category activities =
-    option_and_then (λ number. option_map (λ c. record { number = number; caption = caption; category = c; activities = activities }) category) number
+    option_and_then (λ number. option_map
+    (λ c. record { number = number; caption = caption; category = c; activities = activities }) category) number

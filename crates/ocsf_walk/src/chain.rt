@@ -62,7 +62,8 @@ fn parent_named<B: Shows>(
     reads: &mut Row<Cell>,
 ) -> Result<Option<Key>, AllocError>
     ensures found { IfOk result (λ made. made ≡ parent_named (B.looks bundle.now) key.now name.now) }
-    ensures reads { OnOk result (reads.new ≡ reads.old ++ tried (B.looks bundle.now) (item_cells key.now.side (ext_of key.now.name) name.now)) }
+    ensures reads { OnOk result (reads.new
+        ≡ reads.old ++ tried (B.looks bundle.now) (item_cells key.now.side (ext_of key.now.name) name.now)) }
 {
     let cells = item_cells(alloc, key.side, ext_of(key.name.as_str()), name)?;
     match resolve(bundle, cells.as_slice(), reads)? {
@@ -154,8 +155,10 @@ pub fn chain_of<B: Shows>(
     reads: &mut Row<Cell>,
 ) -> Result<Chain, AllocError>
     ensures keys { IfOk result (λ made. made.keys ≡ chain (B.looks bundle.now) key.now) }
-    ensures least { IfOk result (λ made. made.least ≡ least_fault (flat_map (parent_fault (B.looks bundle.now)) (chain (B.looks bundle.now) key.now))) }
-    ensures reads { OnOk result (reads.new ≡ reads.old ++ flat_map (key_reads (B.looks bundle.now)) (chain (B.looks bundle.now) key.now)) }
+    ensures least { IfOk result (λ made. made.least
+        ≡ least_fault (flat_map (parent_fault (B.looks bundle.now)) (chain (B.looks bundle.now) key.now))) }
+    ensures reads { OnOk result (reads.new
+        ≡ reads.old ++ flat_map (key_reads (B.looks bundle.now)) (chain (B.looks bundle.now) key.now)) }
 {
     let mut keys = Row::new(alloc);
     let mut least = None;

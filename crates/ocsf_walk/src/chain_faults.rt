@@ -6,7 +6,15 @@ ghost use Rattle.ocsf_tree.specs.ByName.{text_cmp};
 ghost use Rattle.ocsf_tree.specs.Key.{key_text};
 ghost use Rattle.ocsf_tree.specs.LeastFault.{least_fault};
 ghost use Rattle.ocsf_bundle.specs.Looks.{is_there};
-ghost use Rattle.ocsf_rules.specs.ItemFaults.{same_key, cycle_in, least_key, cycle_fault, limit_fault, parent_fault, faults_along};
+ghost use Rattle.ocsf_rules.specs.ItemFaults.{
+  same_key,
+  cycle_in,
+  least_key,
+  cycle_fault,
+  limit_fault,
+  parent_fault,
+  faults_along,
+};
 
 use crate::blame::with_fault;
 use crate::chain::written_parent;
@@ -33,7 +41,8 @@ fn is_same(a: &Key, b: &Key) -> bool
 
 /// How many keys a cycle has that begins with the key and goes on with these, if it comes again.
 fn cycle_len(keys: &[Key], key: &Key) -> Option<usize>
-    ensures len { result ≡ (if list_any (same_key key.now) keys.now then Some (prefix_len (λ j. not (same_key key.now j)) keys.now + 1) else None) }
+    ensures len { result ≡ (if list_any (same_key key.now) keys.now
+        then Some (prefix_len (λ j. not (same_key key.now j)) keys.now + 1) else None) }
     ensures within { IfSome result (λ len. len ≤ length keys.now) }
 {
     for (at, other) in keys.iter().enumerate() {
@@ -80,7 +89,8 @@ fn least_key<'a>(first: &'a Key, rest: &'a [Key]) -> &'a Key
 /// The fault of a chain that is too long, or runs into a cycle.
 fn long_chain<B: Shows>(bundle: &B, key: &Key, keys: &[Key]) -> Result<Option<Fault>, AllocError>
     ensures { let b = B.looks bundle.now in
-        IfOk result (λ made. made ≡ least_fault (if is_there (cycle_in keys.now) then cycle_fault b (cycle_in keys.now) else limit_fault key.now)) }
+        IfOk result (λ made. made ≡ least_fault
+        (if is_there (cycle_in keys.now) then cycle_fault b (cycle_in keys.now) else limit_fault key.now)) }
 {
     let cycle = cycle_in(keys);
     if let [first, rest @ ..] = cycle {

@@ -1,9 +1,32 @@
 // The enumerations that are computed.
-ghost use Rattle.std.specs.Prelude.{◌≡◌, ◌≤◌, ◌∷◌, [], ◌-◌, true, None, Some, IfOk, IfSome, IfNone, map, decimal, if◌then◌else◌};
+ghost use Rattle.std.specs.Prelude.{
+  ◌≡◌,
+  ◌≤◌,
+  ◌∷◌,
+  [],
+  ◌-◌,
+  true,
+  None,
+  Some,
+  IfOk,
+  IfSome,
+  IfNone,
+  map,
+  decimal,
+  if◌then◌else◌,
+};
 ghost use Rattle.std.specs.Option.{option_map, option_and_then};
 ghost use Rattle.std.specs.Str.Parse.{digits_value};
 ghost use Rattle.std.specs.Char.{is_ascii_digit};
-ghost use Rattle.ocsf_rules.specs.Compiled.{bare_member, class_members, category_members, type_member, type_members, computed, computed_members};
+ghost use Rattle.ocsf_rules.specs.Compiled.{
+  bare_member,
+  class_members,
+  category_members,
+  type_member,
+  type_members,
+  computed,
+  computed_members,
+};
 ghost use Rattle.ocsf_rules.specs.ItemFaults.{is_small_decimal};
 ghost use Rattle.ocsf_walk.specs.Ranges.{IsCategoryInRange, IsNumberedInRange, are_small};
 ghost use Rattle.ocsf_walk.specs.Digits.{small_number, numbered_by};
@@ -184,7 +207,8 @@ pub fn numbered_by(
 ) -> Result<Option<Numbered>, AllocError>
     requires number { IfSome number (λ number. number ≤ 99999999) }
     requires category { IfSome category.now IsCategoryInRange }
-    ensures numbered { are_small activities ≡ true → IfOk result (λ made. made ≡ numbered_by number caption category.now activities) }
+    ensures numbered { are_small activities ≡ true
+        → IfOk result (λ made. made ≡ numbered_by number caption category.now activities) }
     ensures none { number ≡ None → IfOk result (λ made. made ≡ None) }
     ensures range { IfOk result (λ made. IfSome made IsNumberedInRange) }
 {

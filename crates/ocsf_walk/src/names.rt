@@ -1,7 +1,19 @@
 // How names resolve: the cells that a name leads to, tried in order.
 ghost use Rattle.std.specs.Prelude.{◌≡◌, ◌++◌, IfOk, OnOk};
 ghost use Rattle.std.specs.Option.{option_copied};
-ghost use Rattle.ocsf_rules.specs.Names.{ext_of, has_slash, in_extension, key_in, item_cells, profile_cells, category_cells, include_cells, is_shown, found, tried};
+ghost use Rattle.ocsf_rules.specs.Names.{
+  ext_of,
+  has_slash,
+  in_extension,
+  key_in,
+  item_cells,
+  profile_cells,
+  category_cells,
+  include_cells,
+  is_shown,
+  found,
+  tried,
+};
 
 use ocsf_bundle::{Cell, Shows};
 use ocsf_tree::{Key, Row, Side, Text, TryClone};

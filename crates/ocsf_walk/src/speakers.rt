@@ -62,7 +62,8 @@ fn push_patch<'a>(
     speakers: &mut Vec<Speaker<'a>>,
 ) -> Result<(), AllocError>
     requires { AreEntriesOrdered patch.file.now.attributes }
-    ensures { OnOk result (Speaks speakers.old.items speakers.new.items (patch_speaker key.now (patch_of patch.entry) ∷ [])) }
+    ensures { OnOk result (Speaks speakers.old.items speakers.new.items
+        (patch_speaker key.now (patch_of patch.entry) ∷ [])) }
 {
     let ext = patch.ext.name.copy()?;
     push_speaker(key, ext, patch.file, speakers)?;
@@ -77,7 +78,8 @@ fn push_shown<'a, B: Shows>(
     speakers: &mut Vec<Speaker<'a>>,
 ) -> Result<(), AllocError>
     requires { cell.now ≡ patches_cell key.now }
-    ensures { OnOk result (Speaks speakers.old.items speakers.new.items (map (patch_speaker key.now) ((B.looks bundle.now).patches key.now))) }
+    ensures { OnOk result (Speaks speakers.old.items speakers.new.items
+        (map (patch_speaker key.now) ((B.looks bundle.now).patches key.now))) }
 {
     for k in 0..bundle.most() {
         match patch_at(bundle, key, cell, k) {
@@ -94,7 +96,8 @@ fn push_patches<'a, B: Shows>(
     key: &Key,
     speakers: &mut Vec<Speaker<'a>>,
 ) -> Result<(), AllocError>
-    ensures { OnOk result (Speaks speakers.old.items speakers.new.items (map (patch_speaker key.now) ((B.looks bundle.now).patches key.now))) }
+    ensures { OnOk result (Speaks speakers.old.items speakers.new.items
+        (map (patch_speaker key.now) ((B.looks bundle.now).patches key.now))) }
 {
     let cell = Cell::Patches(key.try_clone()?);
     push_shown(bundle, key, &cell, speakers)
@@ -107,7 +110,8 @@ fn push_own<'a, B: Shows>(
     key: &Key,
     speakers: &mut Vec<Speaker<'a>>,
 ) -> Result<(), AllocError>
-    ensures { OnOk result (Speaks speakers.old.items speakers.new.items (map (own_speaker key.now) (option_to_list (own_file (B.looks bundle.now) key.now)))) }
+    ensures { OnOk result (Speaks speakers.old.items speakers.new.items
+        (map (own_speaker key.now) (option_to_list (own_file (B.looks bundle.now) key.now)))) }
 {
     match own_file(bundle, key)? {
         Some(file) => {

@@ -92,8 +92,11 @@ fn object_named<B: Shows>(
     written: TypeLent<'_>,
     reads: &mut Row<Cell>,
 ) -> Result<Option<Target>, AllocError>
-    ensures target { IfOk result (λ made. made ≡ option_or (option_map object_target (object_named (B.looks bundle.now) ext.now (type_lent written.entry))) (open_object written.entry.name.now)) }
-    ensures reads { OnOk result (reads.new ≡ reads.old ++ tried (B.looks bundle.now) (object_cells ext.now (type_lent written.entry))) }
+    ensures target { IfOk result (λ made. made
+        ≡ option_or (option_map object_target (object_named (B.looks bundle.now) ext.now (type_lent written.entry)))
+        (open_object written.entry.name.now)) }
+    ensures reads { OnOk result (reads.new
+        ≡ reads.old ++ tried (B.looks bundle.now) (object_cells ext.now (type_lent written.entry))) }
 {
     let cells = object_cells(alloc, ext, written)?;
     match resolve(bundle, cells.as_slice(), reads)? {
@@ -111,7 +114,8 @@ pub fn target_named<B: Shows>(
     reads: &mut Row<Cell>,
 ) -> Result<Option<Target>, AllocError>
     ensures target { IfOk result (λ made. made ≡ target_named (B.looks bundle.now) ext.now (type_lent written.entry)) }
-    ensures reads { OnOk result (reads.new ≡ reads.old ++ type_reads (B.looks bundle.now) ext.now (type_lent written.entry)) }
+    ensures reads { OnOk result (reads.new
+        ≡ reads.old ++ type_reads (B.looks bundle.now) ext.now (type_lent written.entry)) }
 {
     if Base::named(written.name.as_str()).is_some() {
         return Ok(Some(Target::Simple(written.name.copy()?)));

@@ -4,9 +4,34 @@ ghost use Rattle.std.specs.Option.{option_to_list, option_copied};
 ghost use Rattle.ocsf_raw.specs.Ordered.{AreEntriesOrdered};
 ghost use Rattle.ocsf_tree.specs.Key.{key_text};
 ghost use Rattle.ocsf_rules.specs.Names.{key_in, found, tried, profile_cells, include_cells};
-ghost use Rattle.ocsf_rules.specs.Chain.{plain_layer, profile_layer, included_layer, layer_at, include_layer, listed_layer, layers_of};
-ghost use Rattle.ocsf_rules.specs.ItemFaults.{entry_fault, layer_faults, mark_fault, unknown_profile, unknown_include, include_faults, listed_faults, speaker_faults, fault};
-ghost use Rattle.ocsf_rules.specs.Reads.{mark_reads, entry_reads, layer_reads, include_reads, listed_reads, speaker_reads};
+ghost use Rattle.ocsf_rules.specs.Chain.{
+  plain_layer,
+  profile_layer,
+  included_layer,
+  layer_at,
+  include_layer,
+  listed_layer,
+  layers_of,
+};
+ghost use Rattle.ocsf_rules.specs.ItemFaults.{
+  entry_fault,
+  layer_faults,
+  mark_fault,
+  unknown_profile,
+  unknown_include,
+  include_faults,
+  listed_faults,
+  speaker_faults,
+  fault,
+};
+ghost use Rattle.ocsf_rules.specs.Reads.{
+  mark_reads,
+  entry_reads,
+  layer_reads,
+  include_reads,
+  listed_reads,
+  speaker_reads,
+};
 ghost use Rattle.ocsf_walk.specs.Speakers.{speaker_of, AreSpeakersOrdered};
 ghost use Rattle.ocsf_walk.specs.Walk.{Hears, profile_cell, include_cell, layers_at};
 
@@ -28,6 +53,15 @@ pub struct Walk {
     pub reads: Row<Cell>,
     /// The least fault met.
     pub least: Option<Fault>,
+}
+
+/// For whom a file speaks.
+#[derive(Clone, Copy, Drop)]
+struct Voice<'a> {
+    /// The key on the chain that it speaks for.
+    by: &'a Key,
+    /// Its extension, empty for core.
+    ext: &'a str,
 }
 
 /// One fault more.
@@ -63,18 +97,20 @@ fn try_cells<'a, B: Shows>(
 fn find_profile<B: Shows>(
     bundle: &B,
     walk: &mut Walk,
-    by: &Key,
-    ext: &str,
+    voice: &Voice<'_>,
     name: &str,
 ) -> Result<Option<Cell>, AllocError>
-    ensures found { IfOk result (λ made. made ≡ found (B.looks bundle.now) (profile_cells ext.now name.now)) }
-    ensures hears { OnOk result (Hears walk.old walk.new [] (tried (B.looks bundle.now) (profile_cells ext.now name.now)) (unknown_profile (B.looks bundle.now) by.now ext.now name.now)) }
+    ensures found { IfOk result (λ made. made ≡ found (B.looks bundle.now) (profile_cells voice.now.ext.now name.now)) }
+    ensures hears { let b = B.looks bundle.now in
+        OnOk result (Hears walk.old walk.new []
+        (tried b (profile_cells voice.now.ext.now name.now))
+        (unknown_profile b voice.now.by.now voice.now.ext.now name.now)) }
 {
-    let cells = profile_cells(by.name.allocator(), ext, name)?;
+    let cells = profile_cells(voice.by.name.allocator(), voice.ext, name)?;
     match try_cells(bundle, walk, cells.as_slice())? {
         Some(cell) => Ok(Some(cell.try_clone()?)),
         None => {
-            blame(walk, Code::ProfileUnknown, by, name)?;
+            blame(walk, Code::ProfileUnknown, voice.by, name)?;
             Ok(None)
         }
     }
@@ -84,17 +120,19 @@ fn find_profile<B: Shows>(
 fn hear_mark<B: Shows>(
     bundle: &B,
     walk: &mut Walk,
-    by: &Key,
-    ext: &str,
+    voice: &Voice<'_>,
     entry: &RawAttr,
 ) -> Result<(), AllocError>
-    ensures { OnOk result (Hears walk.old walk.new [] (entry_reads (B.looks bundle.now) ext.now entry.now) (entry_fault (B.looks bundle.now) by.now ext.now entry.now)) }
+    ensures { let b = B.looks bundle.now in
+        OnOk result (Hears walk.old walk.new []
+        (entry_reads b voice.now.ext.now entry.now)
+        (entry_fault b voice.now.by.now voice.now.ext.now entry.now)) }
 {
     if entry.removed {
         return Ok(());
     }
     if let Mark::Named(name) = &entry.mark {
-        find_profile(bundle, walk, by, ext, name.as_str())?;
+        find_profile(bundle, walk, voice, name.as_str())?;
         return Ok(());
     }
     Ok(())
@@ -104,14 +142,16 @@ fn hear_mark<B: Shows>(
 fn hear_marks<B: Shows>(
     bundle: &B,
     walk: &mut Walk,
-    by: &Key,
-    ext: &str,
+    voice: &Voice<'_>,
     entries: &[RawAttr],
 ) -> Result<(), AllocError>
-    ensures { OnOk result (Hears walk.old walk.new [] (flat_map (entry_reads (B.looks bundle.now) ext.now) entries.now) (flat_map (entry_fault (B.looks bundle.now) by.now ext.now) entries.now)) }
+    ensures { let b = B.looks bundle.now in
+        OnOk result (Hears walk.old walk.new []
+        (flat_map (entry_reads b voice.now.ext.now) entries.now)
+        (flat_map (entry_fault b voice.now.by.now voice.now.ext.now) entries.now)) }
 {
     for entry in entries {
-        hear_mark(bundle, walk, by, ext, entry)?;
+        hear_mark(bundle, walk, voice, entry)?;
     }
     Ok(())
 }
@@ -120,15 +160,17 @@ fn hear_marks<B: Shows>(
 fn hear_plain<B: Shows>(
     bundle: &B,
     walk: &mut Walk,
-    by: &Key,
-    ext: &str,
+    voice: &Voice<'_>,
     entries: &[RawAttr],
 ) -> Result<(), AllocError>
     requires { AreEntriesOrdered entries.now }
-    ensures { OnOk result (Hears walk.old walk.new (plain_layer ext.now entries.now ∷ []) (flat_map (entry_reads (B.looks bundle.now) ext.now) entries.now) (flat_map (entry_fault (B.looks bundle.now) by.now ext.now) entries.now)) }
+    ensures { let b = B.looks bundle.now in
+        OnOk result (Hears walk.old walk.new (plain_layer voice.now.ext.now entries.now ∷ [])
+        (flat_map (entry_reads b voice.now.ext.now) entries.now)
+        (flat_map (entry_fault b voice.now.by.now voice.now.ext.now) entries.now)) }
 {
-    hear_marks(bundle, walk, by, ext, entries)?;
-    walk.table.fold(ext, None, "", entries)?;
+    hear_marks(bundle, walk, voice, entries)?;
+    walk.table.fold(voice.ext, None, "", entries)?;
     Ok(())
 }
 
@@ -140,7 +182,8 @@ fn fold_profile(
     file: &ProfileFile,
 ) -> Result<(), AllocError>
     requires { AreEntriesOrdered file.now.attributes }
-    ensures { OnOk result (Hears walk.old walk.new (profile_layer ext.now key.now file.now ∷ []) (profile_cell key.now ∷ []) []) }
+    ensures { OnOk result (Hears walk.old walk.new
+        (profile_layer ext.now key.now file.now ∷ []) (profile_cell key.now ∷ []) []) }
 {
     walk.reads.push(Cell::Profile(key.copy()?))?;
     walk.profiles.push(key.copy()?)?;
@@ -153,17 +196,18 @@ fn fold_profile(
 fn hear_profile<B: Shows>(
     bundle: &B,
     walk: &mut Walk,
-    by: &Key,
-    ext: &str,
+    voice: &Voice<'_>,
     key: &Text,
     file: &ProfileFile,
 ) -> Result<(), AllocError>
     requires { AreEntriesOrdered file.now.attributes }
-    ensures { let layer = profile_layer ext.now key.now file.now in
-        OnOk result (Hears walk.old walk.new (layer ∷ []) (layer_reads (B.looks bundle.now) layer) (layer_faults (B.looks bundle.now) by.now layer)) }
+    ensures { let b = B.looks bundle.now in
+        let layer = profile_layer voice.now.ext.now key.now file.now in
+        OnOk result (Hears walk.old walk.new
+        (layer ∷ []) (layer_reads b layer) (layer_faults b voice.now.by.now layer)) }
 {
-    fold_profile(walk, ext, key, file)?;
-    hear_marks(bundle, walk, by, ext, file.attributes.as_slice())?;
+    fold_profile(walk, voice.ext, key, file)?;
+    hear_marks(bundle, walk, voice, file.attributes.as_slice())?;
     Ok(())
 }
 
@@ -171,16 +215,17 @@ fn hear_profile<B: Shows>(
 fn hear_included<B: Shows>(
     bundle: &B,
     walk: &mut Walk,
-    by: &Key,
-    ext: &str,
+    voice: &Voice<'_>,
     file: &ProfileFile,
 ) -> Result<(), AllocError>
     requires { AreEntriesOrdered file.now.attributes }
-    ensures { let layer = profile_layer ext.now (key_in ext.now file.now.name) file.now in
-        OnOk result (Hears walk.old walk.new (layer ∷ []) (layer_reads (B.looks bundle.now) layer) (layer_faults (B.looks bundle.now) by.now layer)) }
+    ensures { let b = B.looks bundle.now in
+        let layer = profile_layer voice.now.ext.now (key_in voice.now.ext.now file.now.name) file.now in
+        OnOk result (Hears walk.old walk.new
+        (layer ∷ []) (layer_reads b layer) (layer_faults b voice.now.by.now layer)) }
 {
-    let key = key_in(by.name.allocator(), ext, file.name.as_str())?;
-    hear_profile(bundle, walk, by, ext, &key, file)?;
+    let key = key_in(voice.by.name.allocator(), voice.ext, file.name.as_str())?;
+    hear_profile(bundle, walk, voice, &key, file)?;
     Ok(())
 }
 
@@ -188,22 +233,23 @@ fn hear_included<B: Shows>(
 fn hear_include_at<B: Shows>(
     bundle: &B,
     walk: &mut Walk,
-    by: &Key,
-    from: &Text,
+    voice: &Voice<'_>,
     path: &Text,
     cell: &Cell,
 ) -> Result<(), AllocError>
-    requires { cell.now ≡ include_cell from.now path.now }
-    ensures { let layers = layers_at (B.looks bundle.now) (include_cell from.now path.now) in
-        OnOk result (Hears walk.old walk.new layers (flat_map (layer_reads (B.looks bundle.now)) layers) (flat_map (layer_faults (B.looks bundle.now) by.now) layers)) }
+    requires { cell.now ≡ include_cell voice.now.ext.now path.now }
+    ensures { let b = B.looks bundle.now in
+        let layers = layers_at b (include_cell voice.now.ext.now path.now) in
+        OnOk result (Hears walk.old walk.new layers
+        (flat_map (layer_reads b) layers) (flat_map (layer_faults b voice.now.by.now) layers)) }
 {
     match bundle.look(cell, 0) {
         Some(Part::Profile(file)) => {
-            hear_included(bundle, walk, by, from.as_str(), file)?;
+            hear_included(bundle, walk, voice, file)?;
             Ok(())
         }
         Some(Part::Include(entries)) => {
-            hear_plain(bundle, walk, by, from.as_str(), entries)?;
+            hear_plain(bundle, walk, voice, entries)?;
             Ok(())
         }
         _ => Ok(()),
@@ -219,13 +265,16 @@ fn hear_profile_at<B: Shows>(
     cell: &Cell,
 ) -> Result<(), AllocError>
     requires { cell.now ≡ profile_cell key.now }
-    ensures { let layers = layers_at (B.looks bundle.now) (profile_cell key.now) in
-        OnOk result (Hears walk.old walk.new layers (flat_map (layer_reads (B.looks bundle.now)) layers) (flat_map (layer_faults (B.looks bundle.now) by.now) layers)) }
+    ensures { let b = B.looks bundle.now in
+        let layers = layers_at b (profile_cell key.now) in
+        OnOk result (Hears walk.old walk.new layers
+        (flat_map (layer_reads b) layers) (flat_map (layer_faults b by.now) layers)) }
 {
     match bundle.look(cell, 0) {
         Some(Part::Profile(file)) => {
             let ext = ext_of(key.as_str());
-            hear_profile(bundle, walk, by, ext, key, file)?;
+            let voice = Voice { by, ext };
+            hear_profile(bundle, walk, &voice, key, file)?;
             Ok(())
         }
         _ => Ok(()),
@@ -234,10 +283,17 @@ fn hear_profile_at<B: Shows>(
 
 /// The layer that the cell of an included file or of a profile shows.
 fn hear_cell<B: Shows>(bundle: &B, walk: &mut Walk, by: &Key, cell: &Cell) -> Result<(), AllocError>
-    ensures { OnOk result (Hears walk.old walk.new (layers_at (B.looks bundle.now) cell.now) (flat_map (layer_reads (B.looks bundle.now)) (layers_at (B.looks bundle.now) cell.now)) (flat_map (layer_faults (B.looks bundle.now) by.now) (layers_at (B.looks bundle.now) cell.now))) }
+    ensures { let b = B.looks bundle.now in
+        OnOk result (Hears walk.old walk.new (layers_at b cell.now)
+        (flat_map (layer_reads b) (layers_at b cell.now))
+        (flat_map (layer_faults b by.now) (layers_at b cell.now))) }
 {
     match cell {
-        Cell::Include { from, path } => hear_include_at(bundle, walk, by, from, path, cell),
+        Cell::Include { from, path } => {
+            let ext = from.as_str();
+            let voice = Voice { by, ext };
+            hear_include_at(bundle, walk, &voice, path, cell)
+        }
         Cell::Profile(key) => hear_profile_at(bundle, walk, by, key, cell),
         _ => Ok(()),
     }
@@ -247,21 +303,23 @@ fn hear_cell<B: Shows>(bundle: &B, walk: &mut Walk, by: &Key, cell: &Cell) -> Re
 fn hear_include<B: Shows>(
     bundle: &B,
     walk: &mut Walk,
-    by: &Key,
-    ext: &str,
+    voice: &Voice<'_>,
     path: &Text,
 ) -> Result<(), AllocError>
-    ensures { OnOk result (Hears walk.old walk.new (include_layer (B.looks bundle.now) ext.now path.now) (include_reads (B.looks bundle.now) ext.now path.now) (include_faults (B.looks bundle.now) by.now ext.now path.now)) }
+    ensures { let b = B.looks bundle.now in
+        OnOk result (Hears walk.old walk.new (include_layer b voice.now.ext.now path.now)
+        (include_reads b voice.now.ext.now path.now)
+        (include_faults b voice.now.by.now voice.now.ext.now path.now)) }
 {
-    let cells = include_cells(by.name.allocator(), ext, path.as_str())?;
+    let cells = include_cells(voice.by.name.allocator(), voice.ext, path.as_str())?;
     let made = try_cells(bundle, walk, cells.as_slice())?;
     match made {
         Some(cell) => {
-            hear_cell(bundle, walk, by, cell)?;
+            hear_cell(bundle, walk, voice.by, cell)?;
             Ok(())
         }
         None => {
-            blame(walk, Code::IncludeUnknown, by, path.as_str())?;
+            blame(walk, Code::IncludeUnknown, voice.by, path.as_str())?;
             Ok(())
         }
     }
@@ -271,16 +329,18 @@ fn hear_include<B: Shows>(
 fn hear_listed<B: Shows>(
     bundle: &B,
     walk: &mut Walk,
-    by: &Key,
-    ext: &str,
+    voice: &Voice<'_>,
     name: &Text,
 ) -> Result<(), AllocError>
-    ensures { OnOk result (Hears walk.old walk.new (listed_layer (B.looks bundle.now) ext.now name.now) (listed_reads (B.looks bundle.now) ext.now name.now) (listed_faults (B.looks bundle.now) by.now ext.now name.now)) }
+    ensures { let b = B.looks bundle.now in
+        OnOk result (Hears walk.old walk.new (listed_layer b voice.now.ext.now name.now)
+        (listed_reads b voice.now.ext.now name.now)
+        (listed_faults b voice.now.by.now voice.now.ext.now name.now)) }
 {
-    let made = find_profile(bundle, walk, by, ext, name.as_str())?;
+    let made = find_profile(bundle, walk, voice, name.as_str())?;
     match made {
         Some(cell) => {
-            hear_cell(bundle, walk, by, &cell)?;
+            hear_cell(bundle, walk, voice.by, &cell)?;
             Ok(())
         }
         None => Ok(()),
@@ -291,14 +351,16 @@ fn hear_listed<B: Shows>(
 fn hear_includes<B: Shows>(
     bundle: &B,
     walk: &mut Walk,
-    by: &Key,
-    ext: &str,
+    voice: &Voice<'_>,
     paths: &[Text],
 ) -> Result<(), AllocError>
-    ensures { OnOk result (Hears walk.old walk.new (flat_map (include_layer (B.looks bundle.now) ext.now) paths.now) (flat_map (include_reads (B.looks bundle.now) ext.now) paths.now) (flat_map (include_faults (B.looks bundle.now) by.now ext.now) paths.now)) }
+    ensures { let b = B.looks bundle.now in
+        OnOk result (Hears walk.old walk.new (flat_map (include_layer b voice.now.ext.now) paths.now)
+        (flat_map (include_reads b voice.now.ext.now) paths.now)
+        (flat_map (include_faults b voice.now.by.now voice.now.ext.now) paths.now)) }
 {
     for path in paths {
-        hear_include(bundle, walk, by, ext, path)?;
+        hear_include(bundle, walk, voice, path)?;
     }
     Ok(())
 }
@@ -307,14 +369,16 @@ fn hear_includes<B: Shows>(
 fn hear_profiles<B: Shows>(
     bundle: &B,
     walk: &mut Walk,
-    by: &Key,
-    ext: &str,
+    voice: &Voice<'_>,
     names: &[Text],
 ) -> Result<(), AllocError>
-    ensures { OnOk result (Hears walk.old walk.new (flat_map (listed_layer (B.looks bundle.now) ext.now) names.now) (flat_map (listed_reads (B.looks bundle.now) ext.now) names.now) (flat_map (listed_faults (B.looks bundle.now) by.now ext.now) names.now)) }
+    ensures { let b = B.looks bundle.now in
+        OnOk result (Hears walk.old walk.new (flat_map (listed_layer b voice.now.ext.now) names.now)
+        (flat_map (listed_reads b voice.now.ext.now) names.now)
+        (flat_map (listed_faults b voice.now.by.now voice.now.ext.now) names.now)) }
 {
     for name in names {
-        hear_listed(bundle, walk, by, ext, name)?;
+        hear_listed(bundle, walk, voice, name)?;
     }
     Ok(())
 }
@@ -322,14 +386,20 @@ fn hear_profiles<B: Shows>(
 /// All that one file gives.
 fn hear_file<B: Shows>(bundle: &B, walk: &mut Walk, speaker: &Speaker<'_>) -> Result<(), AllocError>
     requires { AreEntriesOrdered speaker.now.file.now.attributes }
-    ensures { OnOk result (Hears walk.old walk.new (layers_of (B.looks bundle.now) (speaker_of speaker.now)) (speaker_reads (B.looks bundle.now) (speaker_of speaker.now)) (speaker_faults (B.looks bundle.now) (speaker_of speaker.now))) }
+    ensures { let b = B.looks bundle.now in
+        OnOk result (Hears walk.old walk.new (layers_of b (speaker_of speaker.now))
+        (speaker_reads b (speaker_of speaker.now))
+        (speaker_faults b (speaker_of speaker.now))) }
 {
-    let by = &speaker.by;
     let ext = speaker.ext.as_str();
+    let voice = Voice {
+        by: &speaker.by,
+        ext,
+    };
     let file = speaker.file;
-    hear_includes(bundle, walk, by, ext, file.includes.as_slice())?;
-    hear_profiles(bundle, walk, by, ext, file.profiles.as_slice())?;
-    hear_plain(bundle, walk, by, ext, file.attributes.as_slice())?;
+    hear_includes(bundle, walk, &voice, file.includes.as_slice())?;
+    hear_profiles(bundle, walk, &voice, file.profiles.as_slice())?;
+    hear_plain(bundle, walk, &voice, file.attributes.as_slice())?;
     Ok(())
 }
 
@@ -340,8 +410,10 @@ pub fn hear_files<B: Shows>(
     speakers: &[Speaker<'_>],
 ) -> Result<(), AllocError>
     requires { AreSpeakersOrdered speakers.now }
-    ensures { let ss = map speaker_of speakers.now in
-        OnOk result (Hears walk.old walk.new (flat_map (layers_of (B.looks bundle.now)) ss) (flat_map (speaker_reads (B.looks bundle.now)) ss) (flat_map (speaker_faults (B.looks bundle.now)) ss)) }
+    ensures { let b = B.looks bundle.now in
+        let ss = map speaker_of speakers.now in
+        OnOk result (Hears walk.old walk.new (flat_map (layers_of b) ss)
+        (flat_map (speaker_reads b) ss) (flat_map (speaker_faults b) ss)) }
 {
     for speaker in speakers {
         hear_file(bundle, walk, speaker)?;

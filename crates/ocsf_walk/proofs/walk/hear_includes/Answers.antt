@@ -7,5 +7,7 @@ use Rattle.ocsf_walk.proofs.walk.hear_includes.Goals as goal
 pub loop-path-preserved : goal.loop-path-preserved
 loop-path-preserved g c =
     let b = g.B.Shows.looks c.args.bundle.now in
-    hears_more (include_layer b c.args.ext.now) (include_reads b c.args.ext.now) (include_faults b c.args.by.now c.args.ext.now) c.args.paths.now c.loop-path.path-index c.path-item.result _ _ _
+    let by = c.args.voice.now.by.now in
+    let ext = c.args.voice.now.ext.now in
+    hears_more (include_layer b ext) (include_reads b ext) (include_faults b by ext) c.args.paths.now c.loop-path.path-index c.path-item.result _ _ _
     c.loop-path-test.true c.path-item.is c.loop-path.invariant c.in_ok-hear_include.ensures

@@ -9,4 +9,6 @@ use Rattle.ocsf_walk.proofs.walk.hear_includes.Given as goal
 abbrev pub invariant-loop-path : goal.invariant-loop-path
 invariant-loop-path g l =
     let b = g.B.Shows.looks l.bundle in
-    Hears l.fn.walk l.walk (flat_map (include_layer b l.ext) (take l.path-index l.paths)) (flat_map (include_reads b l.ext) (take l.path-index l.paths)) (flat_map (include_faults b l.by l.ext) (take l.path-index l.paths))
+    let by = l.voice.by.now in
+    let ext = l.voice.ext.now in
+    Hears l.fn.walk l.walk (flat_map (include_layer b ext) (take l.path-index l.paths)) (flat_map (include_reads b ext) (take l.path-index l.paths)) (flat_map (include_faults b by ext) (take l.path-index l.paths))

@@ -9,4 +9,6 @@ use Rattle.ocsf_walk.proofs.walk.hear_profiles.Given as goal
 abbrev pub invariant-loop-name : goal.invariant-loop-name
 invariant-loop-name g l =
     let b = g.B.Shows.looks l.bundle in
-    Hears l.fn.walk l.walk (flat_map (listed_layer b l.ext) (take l.name-index l.names)) (flat_map (listed_reads b l.ext) (take l.name-index l.names)) (flat_map (listed_faults b l.by l.ext) (take l.name-index l.names))
+    let by = l.voice.by.now in
+    let ext = l.voice.ext.now in
+    Hears l.fn.walk l.walk (flat_map (listed_layer b ext) (take l.name-index l.names)) (flat_map (listed_reads b ext) (take l.name-index l.names)) (flat_map (listed_faults b by ext) (take l.name-index l.names))

@@ -5,9 +5,9 @@ use Rattle.ocsf_bundle.specs.Stored.{Stored}
 use Rattle.ocsf_bundle.specs.FilesLook.{looks}
 use Rattle.ocsf_bundle.specs.Listing.{listing}
 use Rattle.ocsf_rules.specs.PrintedSchema.{items}
+use Rattle.ocsf_compiler.specs.NoFiles.{no_files}
 use Rattle.ocsf_compiler.proofs.BundleFaults.{whole}
-use Rattle.ocsf_tool.specs.Edits.{no_files}
-use Rattle.ocsf_tool.proofs.compilation.schema_of_no_files.Goals as goal
+use Rattle.ocsf_compiler.proofs.no_files.schema_without_items.Goals as goal
 
 abbrev no_items : List Item
 no_items = []
@@ -17,7 +17,8 @@ none s e = subst (λ (t : Stored). no_items ≡ items (looks t.files t.enabled) 
 
 pub of-requires-clause-pieces : goal.of-requires-clause-pieces
 of-requires-clause-pieces c =
-    let is : c.in_ok-parts.parts.pieces ≡ no_items = ap (λ p. p.pieces) c.in_ok-parts.ensures.parts ∙ c.new.ensures in
+    let is : c.in_ok-parts.parts.pieces ≡ no_items =
+    ap (λ p. p.pieces) c.in_ok-parts.ensures.parts ∙ c.new.ensures in
     subst IsByKey (sym is) refl
 
 pub returns : goal.returns
