@@ -1,6 +1,7 @@
 -- What dictionaries say of a type, and the way that is left.
 use Rattle.std.proofs.Common.{◌≡◌, ℕ, suc, zero, ◌-◌, ◌<◌, List, [], ◌∷◌, ◌++◌, Bool, true, false, ◌||◌, not, if◌then◌else◌, is_some, Option, Some, None, unwrap_or, refl, sym, ap, ◌∙◌, arith}
 use Rattle.std.specs.Option.{option_or}
+use Rattle.ocsf_tree.proofs.Givens.{last_given-push}
 use Rattle.ocsf_tree.specs.declared.fault.Fault.{Fault}
 use Rattle.ocsf_tree.specs.declared.fault.Code.TheVariants as code
 use Rattle.ocsf_raw.specs.declared.dictionary.TypeEntry.{TypeEntry}
@@ -12,17 +13,8 @@ pub is_there-push : {X : Type 0} (xs : List X) (x : X) → is_there (xs ++ x ∷
 is_there-push [] x = refl
 is_there-push (y ∷ ys) x = refl
 
-option_or-none : {X : Type 0} (o : Option X) → option_or o None ≡ o
-option_or-none None = refl
-option_or-none (Some x) = refl
-
-option_or-assoc : {X : Type 0} (a b c : Option X) → option_or (option_or a b) c ≡ option_or a (option_or b c)
-option_or-assoc None b c = refl
-option_or-assoc (Some x) b c = refl
-
 pub last_parent-push : (es : List TypeEntry) (e : TypeEntry) → last_parent (es ++ e ∷ []) ≡ option_or e.parent (last_parent es)
-last_parent-push [] e = sym (option_or-none e.parent)
-last_parent-push (d ∷ es) e = ap (λ o. option_or o d.parent) (last_parent-push es e) ∙ option_or-assoc e.parent (last_parent es) d.parent
+last_parent-push es e = last_given-push (λ (t : TypeEntry). t.parent) es e
 
 reached-end : (moves : ℕ) (kinds : Kinds) (name : List ℕ) → is_end kinds name ≡ true → reached moves kinds name ≡ name
 unfolding reached

@@ -7,6 +7,7 @@ use Rattle.std.specs.Option.{option_map_or, option_and_then, option_or}
 use Rattle.std.specs.List.{filter_map, list_any, sum_by}
 use Rattle.std.specs.Str.{bytes_eq}
 use Rattle.std.specs.Ordering.{is_lt}
+use Rattle.ocsf_tree.specs.Given.{last_given}
 use Rattle.ocsf_tree.specs.ByName.{text_cmp}
 use Rattle.ocsf_tree.specs.Key.{side_text}
 pub use Rattle.ocsf_tree.specs.Fault.{fault}
@@ -175,8 +176,7 @@ Kinds = List ℕ → List TypeEntry
 
 -- the type that is named by the last of these entries to name one
 abbrev pub last_parent : List TypeEntry → Option (List ℕ)
-last_parent [] = None
-last_parent (entry ∷ entries) = option_or (last_parent entries) entry.parent
+last_parent entries = last_given (λ (entry : TypeEntry). entry.parent) entries
 
 -- the type that a listed type narrows, the empty name where no dictionary names one
 abbrev pub narrowed : Kinds → List ℕ → List ℕ

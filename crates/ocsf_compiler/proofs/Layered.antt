@@ -8,13 +8,15 @@ use Rattle.ocsf_tree.specs.Valid.{IsValidList}
 use Rattle.ocsf_tree.specs.ByName.{put_by_name}
 use Rattle.ocsf_tree.specs.FirstOfEach.{first_of_each}
 use Rattle.ocsf_tree.proofs.FirstOfEach.{IsByName-first_of_each, first_of_each-by_name}
+use Rattle.ocsf_tree.specs.Given.{first_given}
+use Rattle.ocsf_tree.proofs.Givens.{last_given-push}
 use Rattle.ocsf_raw.specs.declared.dictionary.DictEntry.{DictEntry}
 use Rattle.ocsf_raw.specs.declared.dictionary.TypeEntry.{TypeEntry}
 use Rattle.ocsf_raw.specs.Ordered.{IsByKey, IsSpanValid, IsTypeValid}
 use Rattle.ocsf_bundle.specs.Shown.{Shown, Kind}
 use Rattle.ocsf_bundle.specs.Looks.{DictOf, show_entry}
-use Rattle.ocsf_rules.specs.Attribute.{first_said, type_said_in, dict_said}
-use Rattle.ocsf_rules.specs.MergedDictionary.{entry_said, last_giving, merged_layers}
+use Rattle.ocsf_rules.specs.Attribute.{type_said_in, dict_said}
+use Rattle.ocsf_rules.specs.MergedDictionary.{entry_said, merged_layers}
 use Rattle.ocsf_compiler.specs.Layers.{as_entry, as_type, entry_over, type_over}
 
 module _ {X Y : Type 0} (show : X → Shown) (back : Shown → Option Y) (value : X → Y) (is : (x : X) → back (show x) ≡ Some (value x)) where
@@ -46,20 +48,20 @@ module _ {X Y : Type 0} (show : X → Shown) (back : Shown → Option Y) (value 
 abbrev said_by : List ℕ → List DictOf → DictEntry
 said_by name ds = record {
   name = name;
-  caption = first_said (λ d. d.entry.caption) ds;
-  description = first_said (λ d. d.entry.description) ds;
-  type_name = option_map (λ t. t.name) (first_said (λ d. type_said_in d.ext d.entry.type_name) ds);
-  is_array = first_said (λ d. d.entry.is_array) ds;
+  caption = first_given (λ d. d.entry.caption) ds;
+  description = first_given (λ d. d.entry.description) ds;
+  type_name = option_map (λ t. t.name) (first_given (λ d. type_said_in d.ext d.entry.type_name) ds);
+  is_array = first_given (λ d. d.entry.is_array) ds;
   members = first_of_each (λ m. m.key) (flat_map (λ d. d.entry.members) ds);
-  sibling = first_said (λ d. d.entry.sibling) ds;
+  sibling = first_given (λ d. d.entry.sibling) ds;
 }
 
 -- the type that these layers give, the first of them first
 abbrev type_names : List DictOf → Option (List ℕ)
-type_names ds = option_map (λ t. t.name) (first_said (λ d. type_said_in d.ext d.entry.type_name) ds)
+type_names ds = option_map (λ t. t.name) (first_given (λ d. type_said_in d.ext d.entry.type_name) ds)
 
 type_over_old : (from : List ℕ) (t : Option (List ℕ)) (ds : List DictOf)
-    → option_map (λ s. s.name) (option_or (type_said_in from t) (first_said (λ d. type_said_in d.ext d.entry.type_name) ds)) ≡ option_or t (type_names ds)
+    → option_map (λ s. s.name) (option_or (type_said_in from t) (first_given (λ d. type_said_in d.ext d.entry.type_name) ds)) ≡ option_or t (type_names ds)
 type_over_old from None ds = refl
 type_over_old from (Some name) ds = refl
 
@@ -100,27 +102,15 @@ said_by_key name ds = IsByName-first_of_each (λ m. m.key) (dict_said ds).member
 
 -- ---- types
 
-or_none : {Y : Type 0} (o : Option Y) → o ≡ option_or o None
-or_none None = refl
-or_none (Some y) = refl
-
-or_assoc : {Y : Type 0} (a b c : Option Y) → option_or (option_or a b) c ≡ option_or a (option_or b c)
-or_assoc None b c = refl
-or_assoc (Some y) b c = refl
-
-last_giving-push : {X Y : Type 0} (field : X → Option Y) (xs : List X) (x : X) → last_giving field (xs ++ x ∷ []) ≡ option_or (field x) (last_giving field xs)
-last_giving-push field [] x = or_none (field x)
-last_giving-push field (y ∷ xs) x = ap (λ o. option_or o (field y)) (last_giving-push field xs x) ∙ or_assoc (field x) (last_giving field xs) (field y)
-
 layers_more : (name : List ℕ) (layers : List TypeEntry) (layer : TypeEntry) → merged_layers name (layers ++ layer ∷ []) ≡ type_over layer (merged_layers name layers)
 layers_more name layers layer =
-    let caption = last_giving-push (λ (t : TypeEntry). t.caption) layers layer in
-    let description = last_giving-push (λ (t : TypeEntry). t.description) layers layer in
-    let parent = last_giving-push (λ (t : TypeEntry). t.parent) layers layer in
-    let pattern = last_giving-push (λ (t : TypeEntry). t.pattern) layers layer in
-    let range = last_giving-push (λ (t : TypeEntry). t.range) layers layer in
-    let max_len = last_giving-push (λ (t : TypeEntry). t.max_len) layers layer in
-    let values = last_giving-push (λ (t : TypeEntry). t.values) layers layer in
+    let caption = last_given-push (λ (t : TypeEntry). t.caption) layers layer in
+    let description = last_given-push (λ (t : TypeEntry). t.description) layers layer in
+    let parent = last_given-push (λ (t : TypeEntry). t.parent) layers layer in
+    let pattern = last_given-push (λ (t : TypeEntry). t.pattern) layers layer in
+    let range = last_given-push (λ (t : TypeEntry). t.range) layers layer in
+    let max_len = last_given-push (λ (t : TypeEntry). t.max_len) layers layer in
+    let values = last_given-push (λ (t : TypeEntry). t.values) layers layer in
     λ i. record {
       name = name;
       caption = caption i;

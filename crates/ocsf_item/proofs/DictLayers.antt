@@ -4,18 +4,19 @@ use Rattle.std.specs.Prelude.{slice_get, flat_map}
 use Rattle.std.proofs.lemmas.List.{reverse-append}
 use Rattle.ocsf_bundle.specs.Looks.{DictOf}
 use Rattle.ocsf_rules.specs.declared.said.DictSaid.{DictSaid}
-use Rattle.ocsf_rules.specs.Attribute.{dict_said, first_said, type_said_in}
+use Rattle.ocsf_rules.specs.Attribute.{dict_said, type_said_in}
+use Rattle.ocsf_tree.specs.Given.{first_given}
 use Rattle.ocsf_item.specs.Dictionary.{dict_over}
 use Rattle.ocsf_walk.proofs.Lists.{take_none, take_some, take_all}
 
 -- one layer more, the last
 dict_said-push : (ds : List DictOf) (d : DictOf) → dict_over d (dict_said ds) ≡ dict_said (ds ++ d ∷ [])
 dict_said-push ds d = let back = sym (reverse-append ds (d ∷ [])) in λ i. record {
-  caption = first_said (λ d. d.entry.caption) (back i);
-  description = first_said (λ d. d.entry.description) (back i);
-  type_said = first_said (λ d. type_said_in d.ext d.entry.type_name) (back i);
-  is_array = first_said (λ d. d.entry.is_array) (back i);
-  sibling = first_said (λ d. d.entry.sibling) (back i);
+  caption = first_given (λ d. d.entry.caption) (back i);
+  description = first_given (λ d. d.entry.description) (back i);
+  type_said = first_given (λ d. type_said_in d.ext d.entry.type_name) (back i);
+  is_array = first_given (λ d. d.entry.is_array) (back i);
+  sibling = first_given (λ d. d.entry.sibling) (back i);
   members = flat_map (λ d. d.entry.members) (back i);
 }
 

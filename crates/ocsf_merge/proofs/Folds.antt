@@ -13,7 +13,8 @@ use Rattle.ocsf_raw.specs.declared.attribute.RawAttr.{RawAttr}
 use Rattle.ocsf_raw.specs.Ordered.{IsByKey, AreEntriesOrdered}
 use Rattle.ocsf_merge.specs.declared.spoken.Spoken.{Spoken}
 use Rattle.ocsf_merge.specs.Layers.{Layer, GivenMark, no_mark, given, entry_said, entry_of, entries_for}
-use Rattle.ocsf_merge.specs.Table.{until_removal, counting, first_given, type_said, is_said, mark_said, spoken_by, present, spoken, table_of}
+use Rattle.ocsf_merge.specs.Table.{until_removal, counting, type_said, is_said, mark_said, spoken_by, present, spoken, table_of}
+use Rattle.ocsf_tree.specs.Given.{first_given}
 use Rattle.ocsf_merge.specs.Fold.{over, nothing, after_entry, after_layer}
 use Rattle.ocsf_merge.proofs.MergedLists.{merged-joins, joined, merged-first_of_each}
 use Rattle.ocsf_merge.proofs.TablesByName.{entry_name, row_name, IsByName-table_of, at_name-table_of}

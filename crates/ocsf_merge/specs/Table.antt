@@ -5,6 +5,7 @@ use Rattle.std.specs.Option.{option_or, option_map, option_map_or}
 use Rattle.std.specs.List.{filter_map}
 use Rattle.ocsf_tree.specs.declared.attribute.EnumMember.{EnumMember}
 use Rattle.ocsf_tree.specs.FirstOfEach.{first_of_each}
+use Rattle.ocsf_tree.specs.Given.{first_given}
 use Rattle.ocsf_raw.specs.declared.attribute.Mark.{Mark}
 use Rattle.ocsf_raw.specs.declared.attribute.Mark.TheVariants.{Unsaid}
 use Rattle.ocsf_merge.specs.declared.spoken.Spoken.{Spoken}
@@ -19,11 +20,6 @@ until_removal (Some said ∷ rest) = said ∷ until_removal rest
 -- the entries that count, the last one first: those after the last removal
 abbrev pub counting : List ℕ → List Layer → List Spoken
 counting attribute layers = until_removal (reverse (entries_for attribute layers))
-
--- the field as the first of these entries gives it that gives it
-abbrev pub first_given : {X : Type 0} → (Spoken → Option X) → List Spoken → Option X
-first_given field [] = None
-first_given field (said ∷ rest) = option_or (field said) (first_given field rest)
 
 -- the type with the extension that gives it
 abbrev pub type_said : Spoken → Option (List ℕ × List ℕ)

@@ -22,8 +22,9 @@ use Rattle.ocsf_rules.specs.declared.category.Written.{Written}
 use Rattle.ocsf_rules.specs.Names.{first_of, ext_of, tried, category_cells}
 use Rattle.ocsf_rules.specs.Chain.{own_file, written_parent, parent, keys_up, chain, speakers_of, speakers, layers}
 use Rattle.ocsf_rules.specs.Attribute.{attr_of}
-use Rattle.ocsf_rules.specs.Compiled.{is_class, uid, is_hidden, starts_low, last_given, caption, description, at_least_one, just_one, written_in, written_category, category_of, category_at, category_named, category, category_number, ext_uid, class_number, row_of, enumeration, activities, numbered, computed, profile_keys, item}
+use Rattle.ocsf_rules.specs.Compiled.{is_class, uid, is_hidden, starts_low, caption, description, at_least_one, just_one, written_in, written_category, category_of, category_at, category_named, category, category_number, ext_uid, class_number, row_of, enumeration, activities, numbered, computed, profile_keys, item}
 use Rattle.ocsf_rules.specs.ItemFaults.{fault, same_key, cycle_in, lesser_key, least_key, cycle_fault, parent_fault, limit_fault, faults_along, chain_faults, attribute_fault, category_fault, constraint_fault, activity_fault, size_fault, own_faults, item_fault}
+use Rattle.ocsf_tree.specs.Given.{last_given}
 use Rattle.ocsf_rules.specs.InOrder.{in_order}
 use Rattle.ocsf_rules.specs.Reads.{ext_reads, key_reads, speaker_reads, attribute_reads, category_reads, cells_read, reads}
 use Rattle.ocsf_rule_laws.proofs.Agreement.{left, right, each, weaker, all_take, same_flat_map, same_map, same_categories, same_exts, same_from_found, same_tried}

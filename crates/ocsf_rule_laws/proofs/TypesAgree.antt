@@ -26,10 +26,11 @@ use Rattle.ocsf_bundle.specs.FilesLook.{looks, types_said}
 use Rattle.ocsf_bundle.specs.FilesLook.{kind_of as entry_in}
 use Rattle.ocsf_bundle.specs.Listing.{listing, type_names}
 use Rattle.ocsf_bundle.specs.Looks.{Looks, is_there}
+use Rattle.ocsf_tree.specs.Given.{last_given}
 use Rattle.ocsf_bundle.specs.Stored.{Stored}
 use Rattle.ocsf_bundle.specs.declared.stored.ActiveFile.{ActiveFile}
 use Rattle.ocsf_bundle.proofs.Listed.{found_layers}
-use Rattle.ocsf_rules.specs.MergedDictionary.{last_giving, merged_layers, merged_type}
+use Rattle.ocsf_rules.specs.MergedDictionary.{merged_layers, merged_type}
 use Rattle.ocsf_rules.specs.Verdict.{types_of}
 use Rattle.ocsf_rule_laws.specs.ClosedLaws.{refused_kind, TypesAgree}
 
@@ -104,9 +105,8 @@ listed_type bundle q =
 
 -- ---- both walks move and end alike
 
-same_parents : (entries : List TypeEntry) → last_giving (λ (t : TypeEntry). t.parent) entries ≡ last_parent entries
-same_parents [] = refl
-same_parents (t ∷ entries) = ap (λ o. option_or o t.parent) (same_parents entries)
+same_parents : (entries : List TypeEntry) → last_given (λ (t : TypeEntry). t.parent) entries ≡ last_parent entries
+same_parents entries = refl
 
 parent_there : (q : List ℕ) (entries : List TypeEntry)
     → unwrap_or (option_and_then (λ (t : TypeEntry). t.parent) (if_there q entries)) []

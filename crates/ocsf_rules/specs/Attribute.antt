@@ -8,6 +8,7 @@ use Rattle.ocsf_tree.specs.declared.key.Side.TheVariants.{Object}
 use Rattle.ocsf_tree.specs.declared.attribute.EnumMember.{EnumMember}
 use Rattle.ocsf_tree.specs.declared.attribute.Requirement.TheVariants.{Optional}
 use Rattle.ocsf_tree.specs.FirstOfEach.{first_of_each}
+use Rattle.ocsf_tree.specs.Given.{last_given}
 use Rattle.ocsf_raw.specs.declared.attribute.Mark.{Mark}
 use Rattle.ocsf_raw.specs.declared.attribute.Mark.TheVariants.{Named}
 use Rattle.ocsf_schema.specs.declared.records.Attr.{Attr}
@@ -23,15 +24,6 @@ use Rattle.ocsf_rules.specs.Names.{has_slash, in_extension, exists_cell, found, 
 
 -- ---- the dictionary
 
--- the first of these entries that gives it
-abbrev pub first_said : {X : Type 0} → (DictOf → Option X) → List DictOf → Option X
-first_said field [] = None
-first_said field (d ∷ ds) = option_or (field d) (first_said field ds)
-
--- the last of these layers that gives it
-abbrev pub last_said : {X : Type 0} → (DictOf → Option X) → List DictOf → Option X
-last_said field ds = first_said field (reverse ds)
-
 -- a type as it is written in a layer or a dictionary of that extension
 abbrev pub type_said_in : List ℕ → Option (List ℕ) → Option TypeSaid
 type_said_in ext written = option_map (λ name. record { name = name; from = ext }) written
@@ -39,11 +31,11 @@ type_said_in ext written = option_map (λ name. record { name = name; from = ext
 -- what the dictionaries say of an attribute, the last layer before those before it
 abbrev pub dict_said : List DictOf → DictSaid
 dict_said ds = record {
-  caption = last_said (λ d. d.entry.caption) ds;
-  description = last_said (λ d. d.entry.description) ds;
-  type_said = last_said (λ d. type_said_in d.ext d.entry.type_name) ds;
-  is_array = last_said (λ d. d.entry.is_array) ds;
-  sibling = last_said (λ d. d.entry.sibling) ds;
+  caption = last_given (λ d. d.entry.caption) ds;
+  description = last_given (λ d. d.entry.description) ds;
+  type_said = last_given (λ d. type_said_in d.ext d.entry.type_name) ds;
+  is_array = last_given (λ d. d.entry.is_array) ds;
+  sibling = last_given (λ d. d.entry.sibling) ds;
   members = flat_map (λ d. d.entry.members) (reverse ds);
 }
 

@@ -15,6 +15,7 @@ use Rattle.ocsf_schema.specs.declared.records.Item.{Item}
 use Rattle.ocsf_bundle.specs.Looks.{Looks, CategoryOf, BuiltIn, Listed}
 use Rattle.ocsf_bundle.specs.declared.cells.Cell.{Cell}
 use Rattle.ocsf_bundle.specs.declared.cells.Cell.TheVariants as cell
+use Rattle.ocsf_tree.specs.Given.{last_given}
 use Rattle.ocsf_merge.specs.declared.spoken.Spoken.{Spoken}
 use Rattle.ocsf_merge.specs.Layers.{Layer}
 use Rattle.ocsf_merge.specs.Table.{table_of}
@@ -27,14 +28,6 @@ use Rattle.ocsf_rules.specs.Chain.{Speaker, speakers, speakers_of, layers, own_f
 use Rattle.ocsf_rules.specs.Attribute.{attr_of, dict_said, members_of}
 
 -- ---- fields of the files
-
--- the field as the first of these files gives it that gives it
-abbrev pub first_given : {X : Type 0} → (Speaker → Option X) → List Speaker → Option X
-first_given field ss = first_of (filter_map field ss)
-
--- the field as the last of these files gives it that gives it
-abbrev pub last_given : {X : Type 0} → (Speaker → Option X) → List Speaker → Option X
-last_given field ss = first_given field (reverse ss)
 
 abbrev pub is_class_side : Side → Bool
 is_class_side Class = true

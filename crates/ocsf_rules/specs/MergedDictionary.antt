@@ -3,6 +3,7 @@ use Rattle.std.specs.Prelude.{ℕ, List, [], ◌∷◌, ◌++◌, map, filter_ma
 use Rattle.std.specs.Option.{option_map, option_or}
 use Rattle.std.specs.Result.{result_ok}
 use Rattle.ocsf_tree.specs.FirstOfEach.{first_of_each}
+use Rattle.ocsf_tree.specs.Given.{last_given}
 use Rattle.ocsf_raw.specs.declared.dictionary.DictEntry.{DictEntry}
 use Rattle.ocsf_raw.specs.declared.dictionary.TypeEntry.{TypeEntry}
 use Rattle.ocsf_schema.specs.declared.records.Kind.{Kind}
@@ -34,21 +35,16 @@ merged_entries b l = map (merged_entry b) l.attributes
 
 -- ---- types
 
--- the field as the last of these layers gives it that gives it
-abbrev pub last_giving : {X Y : Type 0} → (X → Option Y) → List X → Option Y
-last_giving field [] = None
-last_giving field (layer ∷ layers) = option_or (last_giving field layers) (field layer)
-
 abbrev pub merged_layers : List ℕ → List TypeEntry → TypeEntry
 merged_layers name layers = record {
   name = name;
-  caption = last_giving (λ t. t.caption) layers;
-  description = last_giving (λ t. t.description) layers;
-  parent = last_giving (λ t. t.parent) layers;
-  pattern = last_giving (λ t. t.pattern) layers;
-  range = last_giving (λ t. t.range) layers;
-  max_len = last_giving (λ t. t.max_len) layers;
-  values = last_giving (λ t. t.values) layers;
+  caption = last_given (λ t. t.caption) layers;
+  description = last_given (λ t. t.description) layers;
+  parent = last_given (λ t. t.parent) layers;
+  pattern = last_given (λ t. t.pattern) layers;
+  range = last_given (λ t. t.range) layers;
+  max_len = last_given (λ t. t.max_len) layers;
+  values = last_given (λ t. t.values) layers;
 }
 
 abbrev pub merged_type : Looks → List ℕ → TypeEntry

@@ -1,6 +1,7 @@
 pub mod Compared
 pub mod FirstFound
 pub mod FirstOfEach
+pub mod Givens
 pub mod Joined
 pub mod Keys
 pub mod LeastFaults

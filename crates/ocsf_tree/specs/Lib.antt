@@ -17,3 +17,4 @@ pub mod Reading
 pub mod Requirement
 pub mod Valid
 pub mod Among
+pub mod Given

@@ -3,7 +3,8 @@ use Rattle.std.specs.Prelude.{List}
 use Rattle.std.specs.Option.{option_or}
 use Rattle.ocsf_walk.specs.declared.given.Given.{Given}
 use Rattle.ocsf_rules.specs.Chain.{Speaker}
-use Rattle.ocsf_rules.specs.Compiled.{last_given, written_in}
+use Rattle.ocsf_rules.specs.Compiled.{written_in}
+use Rattle.ocsf_tree.specs.Given.{last_given}
 
 -- each field as the last of these files gives it
 abbrev pub given_by : List Speaker → Given
