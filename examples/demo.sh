@@ -3,6 +3,8 @@
 # usage: examples/demo.sh PROGRAM, at the top of the repository
 # Where the program isn't there, or is older than the sources, they are compiled without a proof and run with checks.
 program=$1
+# (where the gate compares its print too)
+schema=crates/ocsf_run_rows/data/schema
 made=$(mktemp -d) || exit 1
 trap 'rm -rf "$made"' EXIT
 
@@ -27,7 +29,7 @@ try() {
 # Runs both commands, at the same time where they have to be compiled.
 run_both() {
     if is_built; then
-        "$program" compile examples/schema > "$made/compile"
+        "$program" compile "$schema" > "$made/compile"
         echo $? > "$made/compile.status"
         "$program" edits < examples/story.edits > "$made/edits"
         echo $? > "$made/edits.status"
@@ -36,7 +38,7 @@ run_both() {
     echo "No proved program is at $program: \`make\` proves and builds it (docs/GATE.md says how long that takes)."
     echo "Here the sources are compiled without a proof, and run with a check at each step, which takes some minutes."
     echo
-    files=$(cd examples && find -L schema -name '*.json' | sed 's|.*|--data &=../../examples/&|')
+    files=$(cd "${schema%/*}" && find schema -name '*.json' | sed "s|.*|--data &=../../${schema%/*}/&|")
     # (the names of the example have no blanks)
     try compile $files -- compile schema < /dev/null &
     try edits -- edits < examples/story.edits
@@ -60,8 +62,8 @@ compare() {
 
 run_both
 
-echo "== ocsf compile examples/schema"
-find examples/schema -name '*.json' | LC_ALL=C sort | sed 's/^/   /'
+echo "== ocsf compile $schema"
+find "$schema" -name '*.json' | LC_ALL=C sort | sed 's/^/   /'
 echo "-- answer"
 ends "$(cat "$made/compile")"
 compare compile 0 examples/schema.expected

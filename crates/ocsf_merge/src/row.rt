@@ -47,7 +47,6 @@ fn nothing(alloc: Global, name: &Text) -> Result<Spoken, AllocError>
 }
 
 fn mark_after(
-    alloc: Global,
     from: &str,
     is_profile: bool,
     profile_key: &str,
@@ -56,6 +55,7 @@ fn mark_after(
 ) -> Result<MarkSaid, AllocError>
     ensures { IfOk result (λ made. made ≡ mark_after from.now is_profile profile_key.now mark.now old.now) }
 {
+    let alloc = old.type_from.allocator();
     match mark {
         Mark::Unsaid => {
             if is_profile {
@@ -85,16 +85,11 @@ fn mark_after(
     }
 }
 
-fn type_from_after(
-    alloc: Global,
-    from: &str,
-    entry: &RawAttr,
-    old: &Spoken,
-) -> Result<Text, AllocError>
+fn type_from_after(from: &str, entry: &RawAttr, old: &Spoken) -> Result<Text, AllocError>
     ensures { IfOk result (λ made. made ≡ type_from_after from.now entry.now old.now) }
 {
     match entry.type_name {
-        Some(_) => Text::of(alloc, from),
+        Some(_) => Text::of(old.type_from.allocator(), from),
         None => old.type_from.copy(),
     }
 }
@@ -128,7 +123,6 @@ fn requirement_after(
 }
 
 fn row_parts(
-    alloc: Global,
     from: &str,
     profile: Option<&ProfileFile>,
     profile_key: &str,
@@ -137,15 +131,8 @@ fn row_parts(
 ) -> Result<Spoken, AllocError>
     ensures { IfOk result (λ made. made ≡ row_of from.now profile_key.now profile.entry entry.now old.now) }
 {
-    let type_from = type_from_after(alloc, from, entry, old)?;
-    let marked = mark_after(
-        alloc,
-        from,
-        profile.is_some(),
-        profile_key,
-        &entry.mark,
-        old,
-    )?;
+    let type_from = type_from_after(from, entry, old)?;
+    let marked = mark_after(from, profile.is_some(), profile_key, &entry.mark, old)?;
     let group = group_after(entry, profile, old)?;
     let said = &old.attr;
     let (caption, description) = both_later(
@@ -161,6 +148,7 @@ fn row_parts(
         &said.sibling,
     )?;
     let name = entry.name.copy()?;
+    let alloc = old.type_from.allocator();
     let members = merged_members(alloc, entry.members.as_slice(), said.members.as_slice())?;
     Ok(Spoken {
         attr: RawAttr {
@@ -184,7 +172,6 @@ fn row_parts(
 
 /// The row after an entry that isn't a removal, in a layer, over the row before.
 pub fn row_after(
-    alloc: Global,
     from: &str,
     profile: Option<&ProfileFile>,
     profile_key: &str,
@@ -194,7 +181,7 @@ pub fn row_after(
     ensures { IfOk result (λ made. made
         ≡ over (given (layer_of from.now profile.entry profile_key.now []) entry.now) old.now) }
 {
-    row_parts(alloc, from, profile, profile_key, entry, old)
+    row_parts(from, profile, profile_key, entry, old)
 }
 
 /// The row after an entry that isn't a removal, in a layer, where none was before.
@@ -209,5 +196,5 @@ pub fn first_row(
         ≡ over (given (layer_of from.now profile.entry profile_key.now []) entry.now) (nothing entry.now.name)) }
 {
     let none = nothing(alloc, &entry.name)?;
-    row_after(alloc, from, profile, profile_key, entry, &none)
+    row_after(from, profile, profile_key, entry, &none)
 }

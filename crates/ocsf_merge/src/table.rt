@@ -45,23 +45,14 @@ impl Table {
             ++ layer_of from.now profile.entry profile_key.now attributes.now ∷ [])) }
         ensures err { OnErr result (self.new ≡ self.old) }
     {
-        let alloc = self.rows.allocator();
-        self.rows = folded(
-            alloc,
-            self.rows.as_slice(),
-            from,
-            profile,
-            profile_key,
-            attributes,
-        )?;
+        self.rows = folded(&self.rows, from, profile, profile_key, attributes)?;
         Ok(())
     }
 }
 
 /// The rows after the layer.
 fn folded(
-    alloc: Global,
-    rows: &[Spoken],
+    rows: &Row<Spoken>,
     from: &str,
     profile: Option<&ProfileFile>,
     profile_key: &str,
@@ -70,9 +61,10 @@ fn folded(
     ensures { IfOk result (λ made. made
         ≡ after_layer (layer_of from.now profile.entry profile_key.now attributes.now) attributes.now rows.now) }
 {
+    let alloc = rows.allocator();
     let mut made = Row::new(alloc);
     let mut adds = attributes;
-    let mut olds = rows;
+    let mut olds = rows.as_slice();
     while let [entry, more @ ..] = adds {
         if let [row, left @ ..] = olds {
             match entry.name.cmp(&row.attr.name) {
@@ -84,7 +76,7 @@ fn folded(
                 }
                 Ordering::Equal => {
                     if !entry.removed {
-                        made.push(row_after(alloc, from, profile, profile_key, entry, row)?)?;
+                        made.push(row_after(from, profile, profile_key, entry, row)?)?;
                     }
                     adds = more;
                     olds = left;
