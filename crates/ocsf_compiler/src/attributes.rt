@@ -1,5 +1,5 @@
 // The attributes of the dictionaries, merged.
-ghost use Rattle.std.specs.Prelude.{◌≡◌, [], IfOk, All, map, slice_get};
+ghost use Rattle.std.specs.Prelude.{◌≡◌, [], IfOk, map, slice_get};
 ghost use Rattle.std.specs.Option.{option_copied, option_and_then, IfSome};
 ghost use Rattle.ocsf_raw.specs.Ordered.{IsByKey};
 ghost use Rattle.ocsf_bundle.specs.Looks.{look};

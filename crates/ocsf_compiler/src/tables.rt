@@ -1,5 +1,5 @@
 // The merged dictionaries, as they are printed.
-ghost use Rattle.std.specs.Prelude.{◌≡◌, ◌<◌, ◌^◌, ℕ, List, IfOk, All, map, unwrap_or, false};
+ghost use Rattle.std.specs.Prelude.{◌≡◌, ◌<◌, ◌^◌, List, IfOk, All, map, unwrap_or, false};
 ghost use Rattle.std.specs.Option.{option_map, IfSome};
 ghost use Rattle.ocsf_tree.specs.ByName.{IsByName};
 ghost use Rattle.ocsf_tree.specs.Valid.{IsValid};

@@ -3,7 +3,6 @@ ghost use Rattle.std.specs.Prelude.{◌≡◌, ◌++◌, IfOk, flat_map, codes};
 ghost use Rattle.ocsf_tree.specs.ByName.{IsByName};
 ghost use Rattle.ocsf_tree.specs.LeastFault.{least_from};
 ghost use Rattle.ocsf_rules.specs.ItemFaults.{
-  fault,
   leads_fault,
   missing_category,
   absent_fault,

@@ -1,5 +1,5 @@
 // What the layers say of each attribute, joined with the dictionary.
-ghost use Rattle.std.specs.Prelude.{◌≡◌, ◌∷◌, ◌++◌, [], IfOk, IfSome, OnOk, map, flat_map, unwrap_or};
+ghost use Rattle.std.specs.Prelude.{◌≡◌, ◌∷◌, [], IfOk, IfSome, OnOk, map, flat_map, unwrap_or};
 ghost use Rattle.ocsf_rules.specs.Names.{ext_of};
 ghost use Rattle.ocsf_rules.specs.Attribute.{dict_said, members_of, attr_of};
 ghost use Rattle.ocsf_rules.specs.Compiled.{computed};

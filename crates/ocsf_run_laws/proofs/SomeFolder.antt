@@ -1,11 +1,11 @@
 -- A folder comes to a schema or to a fault, whatever it lists.
-use Rattle.std.proofs.Common.{◌≡◌, ◌≢◌, ℕ, List, [], ◌∷◌, ◌++◌, length, map, All, Option, Some, None, Result, Ok, Err, ◌⊎◌, inl, inr, refl, sym, ap, subst}
-use Rattle.std.specs.Prelude.{filter, IfOk, ⊤, codes}
+use Rattle.std.proofs.Common.{◌≡◌, ◌≢◌, ℕ, List, [], ◌∷◌, length, Option, Some, None, Result, Ok, Err, ◌⊎◌, inl, inr, refl, sym, ap, subst}
+use Rattle.std.specs.Prelude.{filter, IfOk, codes}
 use Rattle.std.specs.Option.{option_map}
 use Rattle.std.proofs.lemmas.Bool.{cases_lt}
 use Rattle.std.proofs.lemmas.List.Elements.{All-nil, All-cons}
 use Rattle.ocsf_edge.specs.declared.records.KeptFile.{KeptFile}
-use Rattle.ocsf_edge.specs.Folder.{IsListing, body_at}
+use Rattle.ocsf_edge.specs.Folder.{body_at}
 use Rattle.ocsf_tree.specs.declared.tree.Tree.{Tree}
 use Rattle.ocsf_tree.specs.declared.fault.Code.TheVariants as code
 use Rattle.ocsf_tree.specs.declared.fault.Fault.{Fault}
@@ -21,15 +21,14 @@ use Rattle.ocsf_raw.specs.FileShape.{IsShape}
 use Rattle.ocsf_schema.specs.Schema.{schema_text}
 use Rattle.ocsf_bundle.specs.declared.edit.Change.TheVariants as change
 use Rattle.ocsf_bundle.specs.declared.stored.StoredFile.{StoredFile}
-use Rattle.ocsf_bundle.specs.After.{file_of_form, IsChangeFine, IsChangeFault}
+use Rattle.ocsf_bundle.specs.After.{file_of_form}
 use Rattle.ocsf_bundle.specs.Listing.{in_byte_order}
-use Rattle.ocsf_bundle.specs.Stored.{stored_path}
 use Rattle.ocsf_rules.specs.Compilation.{compilation}
 use Rattle.ocsf_rules.specs.Verdict.{IsVerdict}
 use Rattle.ocsf_rule_laws.proofs.SomeAfter.{comes}
 use Rattle.ocsf_rule_laws.proofs.SomeVerdict.{some_verdict}
 use Rattle.ocsf_tool.specs.Fronts.{past}
-use Rattle.ocsf_tool.specs.Folders.{file_fault, IsShapedAs, IsReadAs, IsWritten, max_file, IsFile, IsFileOf, AreFilesAt, IsFirstFileFault, all_enabled, AreCompiledAs, ArePathsCompiled, IsCompiled}
+use Rattle.ocsf_tool.specs.Folders.{file_fault, IsShapedAs, IsReadAs, max_file, IsFile, IsFileOf, AreFilesAt, IsFirstFileFault, all_enabled, ArePathsCompiled}
 use Rattle.ocsf_run_laws.specs.RunLaws.{HasSomeSchema}
 
 abbrev Made : Type 0

@@ -1,5 +1,5 @@
 -- A run that may end so tells no fault where no object failed.
-use Rattle.std.proofs.Common.{◌≡◌, ◌≢◌, ℕ, List, true, refl}
+use Rattle.std.proofs.Common.{◌≡◌, ◌≢◌, ℕ, true, refl}
 use Rattle.ocsf_edge.specs.Faults.{Rose}
 use Rattle.ocsf_tool.specs.declared.status.Status.{Status}
 use Rattle.ocsf_tool.specs.declared.status.Status.TheVariants.{Done, Flawed, Usage, InputRefused, ReadFault, WriteFault, Memory, KeeperFault, FolderFault, Limit, AcceptFault}

@@ -6,7 +6,6 @@ use Rattle.ocsf_lines.specs.Reading.{LinesRan}
 use Rattle.ocsf_lines.specs.Run.{OutputFront}
 use Rattle.ocsf_lines.specs.declared.lines_end.LinesEnd.{LinesEnd}
 use Rattle.ocsf_lines.specs.declared.lines_end.LinesEnd.TheVariants as lines
-use Rattle.ocsf_tool.specs.declared.status.Status.{Status}
 use Rattle.ocsf_tool.specs.declared.status.Status.TheVariants.{ReadFault, WriteFault, Limit}
 use Rattle.ocsf_tool.specs.Commands.{Edits, FailedOnlyAt, may_end}
 use Rattle.ocsf_tool.specs.Edits.{EditStep, EditsOutput, edits_print, no_edits}

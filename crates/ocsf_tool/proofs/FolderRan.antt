@@ -1,5 +1,5 @@
 -- What a run of `compile` has written.
-use Rattle.std.proofs.Common.{◌≡◌, ℕ, List, [], ◌++◌, take, drop, Bool, true, false, Option, Some, None, Result, Ok, Err, refl, sym, subst}
+use Rattle.std.proofs.Common.{◌≡◌, ℕ, List, [], take, drop, Option, Some, None, Result, Ok, Err, refl, sym, subst}
 use Rattle.std.specs.Prelude.{IfSome, IsErrOf, OnOk, is_err}
 use Rattle.std.specs.Io.KnownBytes.{Appends}
 use Rattle.std.proofs.lemmas.List.{take-append-drop}
@@ -15,7 +15,7 @@ use Rattle.ocsf_lines.specs.Exchange.{Exchange}
 use Rattle.ocsf_tool.specs.Commands.{Compile}
 use Rattle.ocsf_tool.specs.Ends.{refusal_status}
 use Rattle.ocsf_tool.specs.Folders.{IsCompiled, CompileOutput, Written, compile_text}
-use Rattle.ocsf_tool.specs.Outputs.{Told, Whole, Front, Wrote}
+use Rattle.ocsf_tool.specs.Outputs.{Told, Whole, Wrote}
 
 -- the status that tells of what a folder comes to
 pub compiled_status : Result (List ℕ) Fault → Status

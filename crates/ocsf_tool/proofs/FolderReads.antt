@@ -1,6 +1,6 @@
 -- The files of a folder are read, one after the other.
 use Rattle.std.proofs.Common.{◌≡◌, ℕ, ◌+◌, ◌<◌, List, [], ◌∷◌, ◌++◌, length, map, take, drop, get_or, Bool, true, false, ◌&&◌, cond, Option, Some, None, Result, Ok, Err, refl, sym, ap, ap₂, subst, ◌∙◌, append_assoc, inr}
-use Rattle.std.specs.Prelude.{All, IfSome, IsErrAnd, filter, is_err, if◌then◌else◌}
+use Rattle.std.specs.Prelude.{All, IfSome, IsErrAnd, filter, if◌then◌else◌}
 use Rattle.std.specs.List.{filter_map, cons_option}
 use Rattle.std.specs.Ordering.{is_lt}
 use Rattle.std.specs.FinMap.Entries.{below_all}

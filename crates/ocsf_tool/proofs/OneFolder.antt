@@ -1,5 +1,5 @@
 -- A folder comes to one schema or to one fault.
-use Rattle.std.proofs.Common.{◌≡◌, ◌≢◌, ℕ, List, [], ◌∷◌, ◌++◌, length, map, filter, All, Bool, true, cond, ◌&&◌, ◌||◌, Option, Some, None, Result, Ok, Err, Ordering, Less, Equal, Greater, is_eq, inl, inr, refl, sym, ◌∙◌, ap, subst}
+use Rattle.std.proofs.Common.{◌≡◌, ℕ, List, [], ◌∷◌, ◌++◌, length, map, filter, All, Bool, true, cond, ◌&&◌, ◌||◌, Option, Some, None, Result, Ok, Err, Ordering, Less, Equal, Greater, is_eq, inl, inr, refl, sym, ◌∙◌, ap, subst}
 use Rattle.std.specs.Prelude.{IsPermutation}
 use Rattle.std.specs.List.{list_any}
 use Rattle.std.proofs.lemmas.Bool.{cases_lt}
@@ -13,7 +13,6 @@ use Rattle.ocsf_tree.specs.declared.fault.Fault.{Fault}
 use Rattle.ocsf_tree.specs.declared.reader.TreeError.{TreeError}
 use Rattle.ocsf_tree.specs.declared.reader.TreeError.TheVariants.{NotJson, NumberNotWhole, Memory}
 use Rattle.ocsf_tree.specs.ByName.{text_cmp, at_name}
-use Rattle.ocsf_tree.specs.Reading.{IsReading}
 use Rattle.ocsf_tree.proofs.FirstOfEach.{same_lists, IsByName-first_of_each, at_name-first_of_each}
 use Rattle.ocsf_tree.proofs.NameLists.{same_text}
 use Rattle.ocsf_tree.proofs.Readings.{one_reading}
@@ -29,7 +28,7 @@ use Rattle.ocsf_bundle.specs.Stored.{Stored, stored_path}
 use Rattle.ocsf_rules.specs.Verdict.{types_of, AreDecided}
 use Rattle.ocsf_rule_laws.proofs.OneVerdict.{one_verdict}
 use Rattle.ocsf_tool.specs.Folders.{IsShapedAs, IsReadAs, IsWritten, IsFile, IsFileOf, AreFilesAt, IsFirstFileFault, all_enabled, AreCompiledAs, ArePathsCompiled, max_file}
-use Rattle.ocsf_tool.specs.Laws.{AreFilesOf, HasOneSchema}
+use Rattle.ocsf_tool.specs.Laws.{HasOneSchema}
 use Rattle.ocsf_tool.proofs.OneOutcome.{none_or_some, inside_some}
 
 -- ---- a listing in another order has the same paths

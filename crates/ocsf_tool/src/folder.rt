@@ -1,5 +1,5 @@
 // The files of a folder are read and compiled.
-ghost use Rattle.std.specs.Prelude.{◌≡◌, ℕ, List, filter, filter_map, map, IfOk, IfSome};
+ghost use Rattle.std.specs.Prelude.{◌≡◌, ℕ, List, filter_map, map, IfOk, IfSome};
 ghost use Rattle.std.specs.Option.{option_copied};
 ghost use Rattle.ocsf_edge.specs.Folder.{body_at};
 ghost use Rattle.ocsf_tree.specs.ByName.{IsByName};

@@ -1,26 +1,8 @@
 // The enumerations that are computed.
-ghost use Rattle.std.specs.Prelude.{
-  ◌≡◌,
-  ◌≤◌,
-  ◌∷◌,
-  [],
-  ◌-◌,
-  true,
-  None,
-  Some,
-  IfOk,
-  IfSome,
-  IfNone,
-  map,
-  decimal,
-  if◌then◌else◌,
-};
-ghost use Rattle.std.specs.Option.{option_map, option_and_then};
-ghost use Rattle.std.specs.Str.Parse.{digits_value};
+ghost use Rattle.std.specs.Prelude.{◌≡◌, ◌≤◌, ◌∷◌, [], ◌-◌, true, None, Some, IfOk, IfSome, decimal, if◌then◌else◌};
 ghost use Rattle.std.specs.Char.{is_ascii_digit};
 ghost use Rattle.ocsf_rules.specs.Compiled.{
   bare_member,
-  class_members,
   category_members,
   type_member,
   type_members,

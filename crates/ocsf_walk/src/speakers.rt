@@ -3,7 +3,7 @@ ghost use Rattle.std.specs.Prelude.{◌≡◌, [], ◌∷◌, OnOk, IfOk, IfSome
 ghost use Rattle.std.specs.Option.{option_map, option_to_list};
 ghost use Rattle.ocsf_raw.specs.Ordered.{AreEntriesOrdered};
 ghost use Rattle.ocsf_rules.specs.Chain.{own_file, own_speaker, patch_speaker, speakers_of};
-ghost use Rattle.ocsf_walk.specs.Speakers.{patch_of, speaker_of, speaks_for, patches_cell, Speaks, AreSpeakersOrdered};
+ghost use Rattle.ocsf_walk.specs.Speakers.{patch_of, speaks_for, patches_cell, Speaks};
 
 use crate::chain::own_file;
 use crate::names::{ext_of, has_slash};

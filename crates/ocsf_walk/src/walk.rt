@@ -1,37 +1,20 @@
 // The walk along the files that speak: their layers are folded as they are heard.
-ghost use Rattle.std.specs.Prelude.{◌≡◌, [], ◌∷◌, ◌++◌, OnOk, IfOk, None, flat_map, map, is_none};
-ghost use Rattle.std.specs.Option.{option_to_list, option_copied};
+ghost use Rattle.std.specs.Prelude.{◌≡◌, [], ◌∷◌, OnOk, IfOk, None, flat_map, map};
+ghost use Rattle.std.specs.Option.{option_copied};
 ghost use Rattle.ocsf_raw.specs.Ordered.{AreEntriesOrdered};
 ghost use Rattle.ocsf_tree.specs.Key.{key_text};
 ghost use Rattle.ocsf_rules.specs.Names.{key_in, found, tried, profile_cells, include_cells};
-ghost use Rattle.ocsf_rules.specs.Chain.{
-  plain_layer,
-  profile_layer,
-  included_layer,
-  layer_at,
-  include_layer,
-  listed_layer,
-  layers_of,
-};
+ghost use Rattle.ocsf_rules.specs.Chain.{plain_layer, profile_layer, include_layer, listed_layer, layers_of};
 ghost use Rattle.ocsf_rules.specs.ItemFaults.{
   entry_fault,
   layer_faults,
-  mark_fault,
   unknown_profile,
-  unknown_include,
   include_faults,
   listed_faults,
   speaker_faults,
   fault,
 };
-ghost use Rattle.ocsf_rules.specs.Reads.{
-  mark_reads,
-  entry_reads,
-  layer_reads,
-  include_reads,
-  listed_reads,
-  speaker_reads,
-};
+ghost use Rattle.ocsf_rules.specs.Reads.{entry_reads, layer_reads, include_reads, listed_reads, speaker_reads};
 ghost use Rattle.ocsf_walk.specs.Speakers.{speaker_of, AreSpeakersOrdered};
 ghost use Rattle.ocsf_walk.specs.Walk.{Hears, profile_cell, include_cell, layers_at};
 

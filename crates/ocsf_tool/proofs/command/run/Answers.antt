@@ -1,4 +1,4 @@
-use Rattle.std.proofs.Common.{◌≡◌, ℕ, List, [], Option, Some, sym, subst, rules}
+use Rattle.std.proofs.Common.{◌≡◌, [], Option, Some, sym, subst, rules}
 use Rattle.std.specs.Prelude.{IfSome}
 use Rattle.ocsf_tool.specs.Commands.{Command, Edits, Compile, command_of}
 use Rattle.ocsf_tool.specs.Outputs.{Told, Wrote, Ran}

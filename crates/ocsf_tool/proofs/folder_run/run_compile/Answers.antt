@@ -1,7 +1,6 @@
-use Rattle.std.proofs.Common.{Option, Some, Ok, Err, ap, rules}
+use Rattle.std.proofs.Common.{Ok, Err, ap, rules}
 use Rattle.std.specs.Prelude.{IfSome}
 use Rattle.ocsf_schema.specs.Schema.{schema_text}
-use Rattle.ocsf_tool.specs.Ends.{refusal_status}
 use Rattle.ocsf_tool.specs.Folders.{IsCompiled}
 use Rattle.ocsf_tool.proofs.FolderRan.{broken_ran, refusal_ran}
 use Rattle.ocsf_tool.proofs.folder_run.run_compile.Goals as goal

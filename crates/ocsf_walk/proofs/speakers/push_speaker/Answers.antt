@@ -1,4 +1,3 @@
-use Rattle.std.proofs.Common.{◌∙◌}
 use Rattle.ocsf_walk.specs.Speakers.{speaks_for}
 use Rattle.ocsf_walk.proofs.Speeches.{speaks_one}
 use Rattle.ocsf_walk.proofs.speakers.push_speaker.Goals as goal
