@@ -1,5 +1,6 @@
 // Runs of a machine over the lines of a source, in pieces and with faults.
-ghost use Rattle.std.specs.Prelude.{◌≡◌, ◌+◌, ◌%◌, ◌^◌, ◌==◌, ◌∷◌, ◌++◌, [], ℕ, IfOk, if◌then◌else◌, codes, length, take, refl};
+ghost use Rattle.std.specs.Prelude.{◌≡◌, ◌+◌, ◌%◌, ◌^◌, ◌==◌, ◌∷◌, ◌++◌, [], ℕ};
+ghost use Rattle.std.specs.Prelude.{IfOk, if◌then◌else◌, codes, length, take, refl};
 ghost use Rattle.std.proofs.Common.{arith, subst, sym};
 ghost use Rattle.std.proofs.lemmas.List.{take-take};
 
@@ -56,7 +57,12 @@ impl LineMachine for Echo {
         write_all(sink, b"odd")
     }
 
-    ghost answers = { λ old line. (take 5 line ++ 10 ∷ [], length (take 5 line) == 0, (old + 1) % 2 ^ 64, (refl, refl, refl)) };
+    ghost answers = { λ old line. (
+      take 5 line ++ 10 ∷ [],
+      length (take 5 line) == 0,
+      (old + 1) % 2 ^ 64,
+      (refl, refl, refl),
+    ) };
 
     ghost by_front = { λ old line reply flawed new within step.
         subst (λ front. (reply ≡ front ++ 10 ∷ []) × (flawed ≡ (length front == 0)) × (new ≡ (old + 1) % 2 ^ 64))
