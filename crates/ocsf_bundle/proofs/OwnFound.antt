@@ -16,7 +16,7 @@ use Rattle.ocsf_bundle.specs.declared.stored.ActiveFile.{ActiveFile}
 use Rattle.ocsf_bundle.specs.declared.numbers.Numbered.{Numbered}
 use Rattle.ocsf_bundle.specs.declared.keys.GroupBy.TheVariants as by
 use Rattle.ocsf_bundle.specs.Active.{active_files, in_layers}
-use Rattle.ocsf_bundle.specs.Keys.{giving, keys_given, key_given, profile_given, extension_given, active_keys}
+use Rattle.ocsf_bundle.specs.Keys.{patched, giving, keys_given, key_given, profile_given, extension_given, active_keys}
 use Rattle.ocsf_bundle.specs.Looks.{is_there}
 use Rattle.ocsf_bundle.specs.FilesLook.{item_of, kind_of, looks}
 use Rattle.ocsf_bundle.specs.Groups.{given_by, group, groups_of}
@@ -121,13 +121,13 @@ uids_rank active =
     All-append (IsOfRank 13) (numbers_taken (codes "extension") (extension_numbers active)) (numbers_taken (codes "category") categories)
     (numbers_rank (codes "extension") (extension_numbers active)) (numbers_rank (codes "category") categories)
 
-patch_at_rank : (given : IsGiven) (active : ActiveFile) (file : ItemFile) (parent : Option (List ℕ)) → IfSome (option_and_then (patch_at given active file) parent) (IsOfRank 14)
+patch_at_rank : (given : IsGiven) (active : ActiveFile) (file : ItemFile) (key : Option (List ℕ)) → IfSome (option_and_then (patch_at given active file.side) key) (IsOfRank 14)
 patch_at_rank given active file None = tt
-patch_at_rank given active file (Some parent) = if_rank 14 _ _ refl
+patch_at_rank given active file (Some key) = if_rank 14 _ _ refl
 
-patch_rank : (given : IsGiven) (active : ActiveFile) (item : Option ItemFile) → IfSome (option_and_then (λ file. option_and_then (patch_at given active file) file.parent) item) (IsOfRank 14)
+patch_rank : (given : IsGiven) (active : ActiveFile) (item : Option ItemFile) → IfSome (option_and_then (λ file. option_and_then (patch_at given active file.side) (patched active file)) item) (IsOfRank 14)
 patch_rank given active None = tt
-patch_rank given active (Some file) = patch_at_rank given active file file.parent
+patch_rank given active (Some file) = patch_at_rank given active file (patched active file)
 
 patches_rank : (active : List ActiveFile) → All (IsOfRank 14) (patch_faults active)
 patches_rank active = each_rank 14 (patch_fault (is_given active)) (λ a. patch_rank (is_given active) a (item_of a)) active

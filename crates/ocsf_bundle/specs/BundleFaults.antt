@@ -28,7 +28,6 @@ use Rattle.ocsf_bundle.specs.declared.numbers.Numbered.{Numbered}
 use Rattle.ocsf_bundle.specs.Active.{active_files, extension_uid}
 use Rattle.ocsf_bundle.specs.Keys.{key_of, patched, giving, keys_given, key_given, profile_given, extension_given}
 use Rattle.ocsf_bundle.specs.Keys.{active_keys}
-use Rattle.ocsf_raw.specs.Names.{has_slash}
 use Rattle.ocsf_bundle.specs.Looks.{is_there}
 use Rattle.ocsf_bundle.specs.FilesLook.{item_of, categories_said, types_said, extension_file_of, looks}
 
@@ -148,22 +147,13 @@ IsGiven = Side → List ℕ → Bool
 abbrev pub is_given : List ActiveFile → IsGiven
 is_given active s name = is_there (giving (key_given s) name active)
 
--- a file of an extension that extends an item of another extension and has no name of its own
-abbrev pub patches_elsewhere : ActiveFile → ItemFile → List ℕ → Bool
-patches_elsewhere active file parent = is_some active.ext && (not (is_some file.name) && has_slash parent)
-
--- a patch of what isn't there
-abbrev pub patches_nothing : IsGiven → ActiveFile → ItemFile → Bool
-patches_nothing given active file = option_map_or (λ name. not (given file.side name)) (patched active file) false
-
-abbrev pub patch_at : IsGiven → ActiveFile → ItemFile → List ℕ → Option Fault
-patch_at given active file parent =
-    fault_if (patches_elsewhere active file parent || patches_nothing given active file)
-    (fault code.PatchTarget active.file.path parent)
+-- of a patch: that what it patches, by that key, isn't there
+abbrev pub patch_at : IsGiven → ActiveFile → Side → List ℕ → Option Fault
+patch_at given active s key = fault_if (not (given s key)) (fault code.PatchTarget active.file.path key)
 
 abbrev pub patch_fault : IsGiven → ActiveFile → Option Fault
 patch_fault given active =
-    option_and_then (λ file. option_and_then (patch_at given active file) file.parent) (item_of active)
+    option_and_then (λ file. option_and_then (patch_at given active file.side) (patched active file)) (item_of active)
 
 abbrev pub patch_faults : List ActiveFile → List Fault
 patch_faults active = filter_map (patch_fault (is_given active)) active

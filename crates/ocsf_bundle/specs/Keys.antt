@@ -1,5 +1,5 @@
 -- The keys that files give.
-use Rattle.std.specs.Prelude.{ℕ, ◌&&◌, not, List, ◌∷◌, ◌++◌, Bool, true, false, if◌then◌else◌, Option, Some, None}
+use Rattle.std.specs.Prelude.{ℕ, ◌&&◌, List, ◌∷◌, ◌++◌, Bool, true, false, if◌then◌else◌, Option, Some, None}
 use Rattle.std.specs.Prelude.{is_some, map, filter}
 use Rattle.std.specs.Option.{option_and_then, option_map, option_map_or}
 use Rattle.std.specs.List.{filter_map}
@@ -9,7 +9,6 @@ use Rattle.ocsf_tree.specs.declared.key.Side.{Side}
 use Rattle.ocsf_tree.specs.declared.key.Side.TheVariants as side
 use Rattle.ocsf_tree.specs.declared.key.Key.{Key}
 use Rattle.ocsf_tree.specs.Key.{same_side}
-use Rattle.ocsf_raw.specs.Names.{has_slash}
 use Rattle.ocsf_raw.specs.declared.files.RawFile.{RawFile}
 use Rattle.ocsf_raw.specs.declared.files.RawFile.TheVariants as raw
 use Rattle.ocsf_raw.specs.declared.files.ItemFile.{ItemFile}
@@ -24,11 +23,12 @@ key_of active name = option_map_or (λ ext. ext.name ++ 47 ∷ name) (extension_
 abbrev pub has_no_other_name : ItemFile → List ℕ → Bool
 has_no_other_name file name = option_map_or (bytes_eq name) file.name true
 
--- the core item that the file patches: a file of an extension that extends it under no other name
+-- the key of the item that the file patches, of core or of any extension: a file of an extension that extends it under
+-- no other name. A name has no slash, so a patch of an extension's item has none.
 abbrev pub patched : ActiveFile → ItemFile → Option (List ℕ)
 patched active file =
-    option_and_then (λ parent. if is_some active.ext && (not (has_slash parent) && has_no_other_name file parent)
-    then Some parent else None) file.parent
+    option_and_then (λ parent. if is_some active.ext && has_no_other_name file parent then Some parent else None)
+    file.parent
 
 -- the key of an item that the file gives
 abbrev pub item_key : ActiveFile → ItemFile → Option (List ℕ)

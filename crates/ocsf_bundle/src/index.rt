@@ -35,7 +35,7 @@ impl Drop for Sides {
 pub struct Index {
     /// The item files by key.
     pub items: Sides,
-    /// The patches by the core item that they patch, in layers.
+    /// The patches by the item that they patch, in layers.
     pub patches: Sides,
     /// The profile files by key.
     pub profiles: Row<Group>,

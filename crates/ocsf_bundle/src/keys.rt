@@ -6,7 +6,7 @@ ghost use Rattle.ocsf_bundle.specs.Groups.{given_by};
 
 use crate::active::path_below;
 use crate::stored::ActiveFile;
-use ocsf_raw::{ItemFile, RawFile, has_slash};
+use ocsf_raw::{ItemFile, RawFile};
 use ocsf_tree::{Side, Text};
 use std::alloc::{AllocError, Global};
 
@@ -34,16 +34,13 @@ fn has_no_other_name(file: &ItemFile, name: &Text) -> bool
     }
 }
 
-/// The core item that the file patches.
+/// The key of the item that the file patches.
 pub fn patched<'a>(active: &ActiveFile, file: &'a ItemFile) -> Option<&'a Text>
     ensures { option_copied result ≡ patched active.now file.now }
 {
     match &file.parent {
         Some(parent) => {
-            if active.ext.is_some()
-                && !has_slash(parent.as_str())
-                && has_no_other_name(file, parent)
-            {
+            if active.ext.is_some() && has_no_other_name(file, parent) {
                 Some(parent)
             } else {
                 None

@@ -3,7 +3,7 @@ ghost use Rattle.std.specs.Prelude.{◌≡◌, IfOk};
 ghost use Rattle.std.specs.List.{filter_map};
 ghost use Rattle.ocsf_tree.specs.LeastFault.{least_fault};
 ghost use Rattle.ocsf_bundle.specs.Parts.{AreGroupsByName};
-ghost use Rattle.ocsf_bundle.specs.BundleFaults.{patches_elsewhere, patches_nothing, patch_at, patch_fault};
+ghost use Rattle.ocsf_bundle.specs.BundleFaults.{patch_at, patch_fault};
 ghost use Rattle.ocsf_bundle.specs.OwnFaults.{given_in};
 
 use crate::faults::{fault, lesser_of};
@@ -12,7 +12,6 @@ use crate::index::Index;
 use crate::keys::patched;
 use crate::look::{groups_by_side, item_of};
 use crate::stored::ActiveFile;
-use ocsf_raw::{ItemFile, has_slash};
 use ocsf_tree::{Code, Fault, Side, Text};
 use std::alloc::{AllocError, Global};
 
@@ -23,38 +22,21 @@ fn is_given(index: &Index, side: Side, name: &Text) -> bool
     !group_at(groups_by_side(&index.items, side), name.as_str()).is_empty()
 }
 
-fn patches_elsewhere(active: &ActiveFile, file: &ItemFile, parent: &Text) -> bool
-    ensures { result ≡ patches_elsewhere active.now file.now parent.now }
-{
-    active.ext.is_some() && file.name.is_none() && has_slash(parent.as_str())
-}
-
-fn patches_nothing(index: &Index, active: &ActiveFile, file: &ItemFile) -> bool
-    requires { AreGroupsByName index.now }
-    ensures { result ≡ patches_nothing (given_in index.now.items) active.now file.now }
-{
-    match patched(active, file) {
-        Some(name) => !is_given(index, file.side, name),
-        None => false,
-    }
-}
-
 fn patch_at(
     alloc: Global,
     index: &Index,
     active: &ActiveFile,
-    file: &ItemFile,
-    parent: &Text,
+    side: Side,
+    key: &Text,
 ) -> Result<Option<Fault>, AllocError>
     requires { AreGroupsByName index.now }
-    ensures { IfOk result (λ made. made ≡ patch_at (given_in index.now.items) active.now file.now parent.now) }
+    ensures { IfOk result (λ made. made ≡ patch_at (given_in index.now.items) active.now side key.now) }
 {
-    if patches_elsewhere(active, file, parent) || patches_nothing(index, active, file) {
-        let path = active.file.get().path.copy()?;
-        Ok(Some(fault(alloc, Code::PatchTarget, path, parent.as_str())?))
-    } else {
-        Ok(None)
+    if is_given(index, side, key) {
+        return Ok(None);
     }
+    let path = active.file.get().path.copy()?;
+    Ok(Some(fault(alloc, Code::PatchTarget, path, key.as_str())?))
 }
 
 fn patch_fault(
@@ -66,8 +48,8 @@ fn patch_fault(
     ensures { IfOk result (λ made. made ≡ patch_fault (given_in index.now.items) active.now) }
 {
     match item_of(active) {
-        Some(file) => match &file.parent {
-            Some(parent) => patch_at(alloc, index, active, file, parent),
+        Some(file) => match patched(active, file) {
+            Some(key) => patch_at(alloc, index, active, file.side, key),
             None => Ok(None),
         },
         None => Ok(None),

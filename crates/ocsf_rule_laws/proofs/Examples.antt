@@ -202,7 +202,7 @@ unfolding two_files item keys_up
 core_object = refl
 
 own_reads : reads two_files (key Class (codes "win/reg"))
-    ≡ cell.Item (key Class (codes "win/reg")) ∷ cell.Exists (key Object (codes "win/file")) ∷ cell.Dict (codes "file") ∷ cell.Kind (codes "file") ∷ cell.Ext (codes "win") ∷ []
+    ≡ cell.Item (key Class (codes "win/reg")) ∷ cell.Exists (key Object (codes "win/file")) ∷ cell.Patches (key Class (codes "win/reg")) ∷ cell.Dict (codes "file") ∷ cell.Kind (codes "file") ∷ cell.Ext (codes "win") ∷ []
 unfolding two_files reads cells_read keys_up
 own_reads = refl
 
@@ -214,7 +214,7 @@ without_own = shows (record empty {
 })
 
 tried_reads : reads without_own (key Class (codes "win/reg"))
-    ≡ cell.Item (key Class (codes "win/reg")) ∷ cell.Exists (key Object (codes "file")) ∷ cell.Exists (key Object (codes "win/file")) ∷ cell.Dict (codes "file") ∷ cell.Kind (codes "file") ∷ cell.Ext (codes "win") ∷ []
+    ≡ cell.Item (key Class (codes "win/reg")) ∷ cell.Exists (key Object (codes "file")) ∷ cell.Exists (key Object (codes "win/file")) ∷ cell.Patches (key Class (codes "win/reg")) ∷ cell.Dict (codes "file") ∷ cell.Kind (codes "file") ∷ cell.Ext (codes "win") ∷ []
 unfolding without_own reads cells_read keys_up
 tried_reads = refl
 

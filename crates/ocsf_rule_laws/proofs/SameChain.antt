@@ -1,5 +1,5 @@
 -- Equal looks at the cells of the chain give equal chains, and the same files that speak along it.
-use Rattle.std.proofs.Common.{◌≡◌, ℕ, zero, suc, List, [], ◌∷◌, ◌++◌, map, true, false, Some, None, if◌then◌else◌, refl, ◌∙◌, ap, reverse}
+use Rattle.std.proofs.Common.{◌≡◌, ℕ, zero, suc, List, [], ◌∷◌, ◌++◌, map, Some, None, refl, ◌∙◌, ap, reverse}
 use Rattle.std.specs.Prelude.{flat_map}
 use Rattle.std.specs.List.{AllByRecursion}
 use Rattle.std.specs.Option.{option_map_or, option_and_then, option_to_list}
@@ -7,9 +7,9 @@ use Rattle.ocsf_tree.specs.declared.key.Key.{Key}
 use Rattle.ocsf_bundle.specs.Looks.{Looks, look}
 use Rattle.ocsf_bundle.specs.declared.cells.Cell.{Cell}
 use Rattle.ocsf_bundle.specs.declared.cells.Cell.TheVariants as cell
-use Rattle.ocsf_rules.specs.Names.{first_of, has_slash, ext_of, item_cells, item_at, tried}
-use Rattle.ocsf_rules.specs.Chain.{own_file, written_parent, parent_named, parent, from_there, keys_up, chain, patches_of, speakers_of, speakers, own_speaker, patch_speaker}
-use Rattle.ocsf_rules.specs.Reads.{key_reads, patches_reads, parent_reads}
+use Rattle.ocsf_rules.specs.Names.{first_of, ext_of, item_cells, item_at, tried}
+use Rattle.ocsf_rules.specs.Chain.{own_file, written_parent, parent_named, parent, from_there, keys_up, chain, speakers_of, speakers, own_speaker, patch_speaker}
+use Rattle.ocsf_rules.specs.Reads.{key_reads, parent_reads}
 use Rattle.ocsf_rule_laws.proofs.Agreement.{left, right, each, weaker, all_reverse, same_flat_map, same_items, same_patches, same_from_found, same_tried}
 use Rattle.ocsf_rule_laws.specs.LookLaws.{AgreeAt}
 
@@ -25,7 +25,7 @@ module _ (b c : Looks) where
     same_written_parent = ap (option_and_then (λ file. file.parent)) same_own_file
 
     at_parent : AgreeAt b c (parent_reads b k)
-    at_parent = right (λ x. look b x ≡ look c x) (patches_reads k) (parent_reads b k) agree.1
+    at_parent = agree.1.1
 
     named : (name : List ℕ) → AgreeAt b c (tried b (item_cells k.side (ext_of k.name) name)) → parent_named b k name ≡ parent_named c k name
     named name a = same_from_found b c item_at item_at (λ x e. refl) (item_cells k.side (ext_of k.name) name) a
@@ -51,17 +51,10 @@ module _ (b c : Looks) where
         ∙ ap (λ o. option_map_or (tried_for c) o []) same_written_parent
 
     pub same_key_reads : key_reads b k ≡ key_reads c k
-    same_key_reads = ap (λ cells. cell.Item k ∷ patches_reads k ++ cells) same_parent_reads
-
-    pub same_patches_of : patches_of b k ≡ patches_of c k
-    same_patches_of =
-        elim (has_slash k.name) as (λ t. AgreeAt b c ((if t then [] else cell.Patches k ∷ []) ++ parent_reads b k) → (if t then [] else b.patches k) ≡ (if t then [] else c.patches k)) [
-          | true ↦ λ a. refl
-          | false ↦ λ a. same_patches b c k a.0
-        ] agree.1
+    same_key_reads = ap (λ cells. cell.Item k ∷ cell.Patches k ∷ cells) same_parent_reads
 
     pub same_speakers_of : speakers_of b k ≡ speakers_of c k
-    same_speakers_of = λ i. map (own_speaker k) (option_to_list (same_own_file i)) ++ map (patch_speaker k) (same_patches_of i)
+    same_speakers_of = λ i. map (own_speaker k) (option_to_list (same_own_file i)) ++ map (patch_speaker k) (same_patches b c k agree.1.0 i)
 
   pub same_keys_up : (n : ℕ) (k : Key) → AgreeAt b c (flat_map (key_reads b) (keys_up n b k)) → keys_up n b k ≡ keys_up n c k
   unfolding keys_up

@@ -1,6 +1,5 @@
 -- The chain of an item, the files that speak along it, and the layers that they give.
 use Rattle.std.specs.Prelude.{ℕ, zero, suc, List, [], ◌∷◌, ◌++◌, map, reverse, flat_map, Option, Some, None}
-use Rattle.std.specs.Prelude.{if◌then◌else◌}
 use Rattle.std.specs.Option.{option_map, option_and_then, option_to_list}
 use Rattle.ocsf_tree.specs.declared.key.Key.{Key}
 use Rattle.ocsf_raw.specs.declared.attribute.RawAttr.{RawAttr}
@@ -10,7 +9,7 @@ use Rattle.ocsf_bundle.specs.Looks.{Looks, PatchOf, Included, AsProfile, AsInclu
 use Rattle.ocsf_bundle.specs.declared.cells.Cell.{Cell}
 use Rattle.ocsf_bundle.specs.declared.cells.Cell.TheVariants as cell
 use Rattle.ocsf_merge.specs.Layers.{Layer, Profile}
-use Rattle.ocsf_rules.specs.Names.{first_of, has_slash, ext_of, key_in, item_named, found, profile_cells, include_cells}
+use Rattle.ocsf_rules.specs.Names.{first_of, ext_of, key_in, item_named, found, profile_cells, include_cells}
 
 -- ---- the chain
 
@@ -56,13 +55,9 @@ own_speaker k file = record { by = k; ext = ext_of k.name; file = file }
 abbrev pub patch_speaker : Key → PatchOf → Speaker
 patch_speaker k patch = record { by = k; ext = patch.ext.name; file = patch.file }
 
--- an item of core alone is patched
-abbrev pub patches_of : Looks → Key → List PatchOf
-patches_of b k = if has_slash k.name then [] else b.patches k
-
--- the item's file, then its patches
+-- the item's file, then its patches, also where an extension of a lesser uid than the item's own patches it
 abbrev pub speakers_of : Looks → Key → List Speaker
-speakers_of b k = map (own_speaker k) (option_to_list (own_file b k)) ++ map (patch_speaker k) (patches_of b k)
+speakers_of b k = map (own_speaker k) (option_to_list (own_file b k)) ++ map (patch_speaker k) (b.patches k)
 
 -- along the chain, the farthest ancestor first
 abbrev pub speakers : Looks → Key → List Speaker

@@ -13,7 +13,7 @@ use Rattle.ocsf_merge.specs.declared.spoken.Spoken.{Spoken}
 use Rattle.ocsf_merge.specs.Layers.{Layer}
 use Rattle.ocsf_merge.specs.Table.{table_of}
 use Rattle.ocsf_rules.specs.declared.said.TypeSaid.{TypeSaid}
-use Rattle.ocsf_rules.specs.Names.{has_slash, ext_of, tried, item_cells, profile_cells, category_cells, include_cells}
+use Rattle.ocsf_rules.specs.Names.{ext_of, tried, item_cells, profile_cells, category_cells, include_cells}
 use Rattle.ocsf_rules.specs.Chain.{chain, written_parent, Speaker, speakers, layers, include_layer, listed_layer}
 use Rattle.ocsf_rules.specs.Attribute.{dict_said, type_of, is_base_type, is_data_type, object_cells}
 use Rattle.ocsf_rules.specs.Compiled.{written_category}
@@ -25,12 +25,9 @@ use Rattle.ocsf_rules.specs.InOrder.{in_order}
 abbrev pub parent_reads : Looks → Key → List Cell
 parent_reads b k = option_map_or (λ name. tried b (item_cells k.side (ext_of k.name) name)) (written_parent b k) []
 
-abbrev pub patches_reads : Key → List Cell
-patches_reads k = if has_slash k.name then [] else cell.Patches k ∷ []
-
 -- of a key on the chain
 abbrev pub key_reads : Looks → Key → List Cell
-key_reads b k = cell.Item k ∷ patches_reads k ++ parent_reads b k
+key_reads b k = cell.Item k ∷ cell.Patches k ∷ parent_reads b k
 
 -- the extension of the item
 abbrev pub ext_reads : List ℕ → List Cell

@@ -8,7 +8,6 @@ use Rattle.ocsf_tree.specs.declared.key.Key.{Key}
 use Rattle.ocsf_raw.specs.Ordered.{AreEntriesOrdered}
 use Rattle.ocsf_bundle.specs.Looks.{Looks, PatchOf}
 use Rattle.ocsf_walk.specs.declared.speakers.Speaker.{Speaker as Lent}
-use Rattle.ocsf_rules.specs.Names.{has_slash}
 use Rattle.ocsf_rules.specs.Chain.{Speaker, own_file, own_speaker, patch_speaker, speakers_of}
 use Rattle.ocsf_walk.specs.Speakers.{speaker_of, AreSpeakersOrdered, Speaks}
 use Rattle.ocsf_walk.proofs.Lists.{take_none, take_some, take_all, flat_map_more}
@@ -40,18 +39,6 @@ module _ (k : Key) (patches : List PatchOf) (i : ℕ) where
 
   pub patches_through : (a b : List Lent) → length patches ≤ i → Speaks a b (map (patch_speaker k) (take i patches)) → Speaks a b (map (patch_speaker k) patches)
   patches_through a b few before = subst (λ ps. Speaks a b (map (patch_speaker k) ps)) (take_all patches i few) before
-
--- an item of an extension has no patches
-module _ (b : Looks) (k : Key) (x y z : List Lent) (own : Speaks x y (map (own_speaker k) (option_to_list (own_file b k)))) where
-  pub speaks_alone : has_slash k.name ≡ true → Speaks x y (speakers_of b k)
-  speaks_alone e =
-      subst (λ t. Speaks x y (map (own_speaker k) (option_to_list (own_file b k)) ++ map (patch_speaker k) (if t then [] else b.patches k))) (sym e)
-      (subst (Speaks x y) (sym (append-nil (map (own_speaker k) (option_to_list (own_file b k))))) own)
-
-  pub speaks_patched : has_slash k.name ≡ false → Speaks y z (map (patch_speaker k) (b.patches k)) → Speaks x z (speakers_of b k)
-  speaks_patched e patched =
-      subst (λ t. Speaks x z (map (own_speaker k) (option_to_list (own_file b k)) ++ map (patch_speaker k) (if t then [] else b.patches k))) (sym e)
-      (speaks_then x y z (map (own_speaker k) (option_to_list (own_file b k))) (map (patch_speaker k) (b.patches k)) own patched)
 
 -- the files that speak for one key more
 pub keys_more : (b : Looks) (keys : List Key) (i : ℕ) (k : Key) (x y : List Lent) → i < length keys → k ≡ slice_index_or keys i k → Speaks [] x (flat_map (speakers_of b) (take i keys)) → Speaks x y (speakers_of b k)

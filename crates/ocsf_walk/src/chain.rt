@@ -8,10 +8,11 @@ ghost use Rattle.ocsf_tree.specs.declared.fault.Code.TheVariants.{ParentUnknown}
 ghost use Rattle.ocsf_rules.specs.Chain.{own_file, written_parent, parent, parent_named, chain};
 ghost use Rattle.ocsf_rules.specs.Names.{tried, item_cells, ext_of};
 ghost use Rattle.ocsf_rules.specs.ItemFaults.{fault, parent_fault};
-ghost use Rattle.ocsf_rules.specs.Reads.{key_reads, patches_reads, parent_reads};
+ghost use Rattle.ocsf_rules.specs.Reads.{key_reads, parent_reads};
+ghost use Rattle.ocsf_walk.specs.Speakers.{patches_cell};
 ghost use Rattle.ocsf_walk.specs.Typed.{item_cell};
 
-use crate::names::{ext_of, has_slash, item_cells, resolve};
+use crate::names::{ext_of, item_cells, resolve};
 use ocsf_bundle::{Cell, Part, Shows};
 use ocsf_raw::ItemFile;
 use ocsf_tree::{Code, Fault, Key, Row, Text, TryClone, lesser_fault};
@@ -115,12 +116,10 @@ fn parent_of<B: Shows>(
 
 /// The cells of the key that are read whatever its file says.
 fn read_key(key: &Key, reads: &mut Row<Cell>) -> Result<(), AllocError>
-    ensures { OnOk result (reads.new ≡ reads.old ++ item_cell key.now ∷ patches_reads key.now) }
+    ensures { OnOk result (reads.new ≡ reads.old ++ item_cell key.now ∷ patches_cell key.now ∷ []) }
 {
     reads.push(Cell::Item(key.try_clone()?))?;
-    if !has_slash(key.name.as_str()) {
-        reads.push(Cell::Patches(key.try_clone()?))?;
-    }
+    reads.push(Cell::Patches(key.try_clone()?))?;
     Ok(())
 }
 

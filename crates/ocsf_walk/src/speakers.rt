@@ -6,7 +6,7 @@ ghost use Rattle.ocsf_rules.specs.Chain.{own_file, own_speaker, patch_speaker, s
 ghost use Rattle.ocsf_walk.specs.Speakers.{patch_of, speaks_for, patches_cell, Speaks};
 
 use crate::chain::own_file;
-use crate::names::{ext_of, has_slash};
+use crate::names::ext_of;
 use ocsf_bundle::{Cell, Part, Shows};
 use ocsf_raw::{ExtFile, ItemFile};
 use ocsf_tree::{Key, Text, TryClone};
@@ -133,9 +133,6 @@ pub fn push_speakers_of<'a, B: Shows>(
     ensures { OnOk result (Speaks speakers.old.items speakers.new.items (speakers_of (B.looks bundle.now) key.now)) }
 {
     push_own(alloc, bundle, key, speakers)?;
-    if has_slash(key.name.as_str()) {
-        return Ok(());
-    }
     push_patches(bundle, key, speakers)?;
     Ok(())
 }
