@@ -18,7 +18,7 @@ use Rattle.ocsf_tree.proofs.Readings.{some_reading}
 use Rattle.ocsf_raw.specs.declared.files.RawFile.{RawFile}
 use Rattle.ocsf_raw.specs.Forms.{has_form}
 use Rattle.ocsf_raw.specs.FileShape.{IsShape}
-use Rattle.ocsf_schema.specs.Schema.{schema_text}
+use Rattle.ocsf_schema.specs.declared.parts.SchemaParts.{SchemaParts}
 use Rattle.ocsf_bundle.specs.declared.edit.Change.TheVariants as change
 use Rattle.ocsf_bundle.specs.declared.stored.StoredFile.{StoredFile}
 use Rattle.ocsf_bundle.specs.After.{file_of_form}
@@ -139,11 +139,11 @@ module _ (dir : List ℕ) (lying : List KeptFile) where
   come (path ∷ paths) = let here = made_of path (body_at dir path lying) in one_more path paths here.made here.is here.named (come paths)
 
   abbrev Compiled : List (List ℕ) → Type 0
-  Compiled paths = (made : Result (List ℕ) Fault) × ArePathsCompiled dir lying paths made
+  Compiled paths = (made : Result SchemaParts Fault) × ArePathsCompiled dir lying paths made
 
   by_verdict : (paths : List (List ℕ)) (files : List StoredFile) → AreFilesAt dir lying paths files → (verdict : Option Fault) → IsVerdict (all_enabled files) verdict → Compiled paths
   by_verdict paths files at (Some fault) is = (Err fault, inr (files, at, is))
-  by_verdict paths files at None is = (Ok (schema_text (compilation (all_enabled files))), inr (files, at, (is, refl)))
+  by_verdict paths files at None is = (Ok (compilation (all_enabled files)), inr (files, at, (is, refl)))
 
   compiled : (paths : List (List ℕ)) → Compiled paths
   compiled paths = elim (come paths) [

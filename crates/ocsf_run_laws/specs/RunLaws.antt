@@ -4,6 +4,7 @@ use Rattle.ocsf_edge.specs.Folder.{IsListing}
 use Rattle.ocsf_edge.specs.declared.records.KeptFile.{KeptFile}
 use Rattle.ocsf_lines.specs.Lines.{lines_of}
 use Rattle.ocsf_tree.specs.declared.fault.Fault.{Fault}
+use Rattle.ocsf_schema.specs.declared.parts.SchemaParts.{SchemaParts}
 use Rattle.ocsf_bundle.specs.declared.stored.StoredFile.{StoredFile}
 use Rattle.ocsf_bundle.specs.Stored.{Stored}
 use Rattle.ocsf_rules.specs.Verdict.{types_of, AreDecided}
@@ -32,7 +33,7 @@ CompileHasOneOutput = (dir : List ℕ) (lying : List KeptFile) (one other : List
     → CompileOutput dir lying one is_refused → CompileOutput dir lying other was_refused
     → (one ≡ other) × (is_refused ≡ was_refused)
 
--- whatever a folder lists, it comes to a printed schema or to a fault
+-- whatever a folder lists, it comes to a schema or to a fault
 abbrev pub HasSomeSchema : Type 0
 HasSomeSchema = (dir : List ℕ) (lying : List KeptFile) (listed : List (List ℕ)) → IsListing dir lying listed
-    → (made : Result (List ℕ) Fault) × IsCompiled dir lying made
+    → (made : Result SchemaParts Fault) × IsCompiled dir lying made

@@ -14,7 +14,7 @@ pub fn compile_has_one_output()
     ensures { CompileHasOneOutput }
 {}
 
-/// Whatever a folder lists, it comes to a printed schema or to a fault.
+/// Whatever a folder lists, it comes to a schema or to a fault.
 pub fn a_folder_comes_to_something()
     ensures { HasSomeSchema }
 {}

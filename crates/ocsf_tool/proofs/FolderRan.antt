@@ -9,6 +9,8 @@ use Rattle.ocsf_edge.specs.declared.fault.Fail.TheVariants as fail
 use Rattle.ocsf_edge.specs.declared.records.KeptFile.{KeptFile}
 use Rattle.ocsf_edge.specs.Sink.{AppendsPrefix}
 use Rattle.ocsf_tree.specs.declared.fault.Fault.{Fault}
+use Rattle.ocsf_schema.specs.declared.parts.SchemaParts.{SchemaParts}
+use Rattle.ocsf_schema.specs.Schema.{schema_text}
 use Rattle.ocsf_tool.specs.declared.status.Status.{Status}
 use Rattle.ocsf_tool.specs.declared.status.Status.TheVariants.{Done, InputRefused, WriteFault, Memory, FolderFault}
 use Rattle.ocsf_lines.specs.Exchange.{Exchange}
@@ -18,32 +20,32 @@ use Rattle.ocsf_tool.specs.Folders.{IsCompiled, CompileOutput, Written, compile_
 use Rattle.ocsf_tool.specs.Outputs.{Told, Whole, Wrote}
 
 -- the status that tells of what a folder comes to
-pub compiled_status : Result (List ℕ) Fault → Status
-compiled_status (Ok print) = Done
+pub compiled_status : Result SchemaParts Fault → Status
+compiled_status (Ok schema) = Done
 compiled_status (Err fault) = InputRefused
 
 module _ (dir : List ℕ) (told : Told) (taken : List ℕ) where
-  whole_for : (files : Option (List KeptFile)) (made : Result (List ℕ) Fault) (out : List ℕ) → out ≡ compile_text made → IfSome files (λ lying. IsCompiled dir lying made) → IfSome files (λ lying. CompileOutput dir lying out (is_err made))
+  whole_for : (files : Option (List KeptFile)) (made : Result SchemaParts Fault) (out : List ℕ) → out ≡ compile_text made → IfSome files (λ lying. IsCompiled dir lying made) → IfSome files (λ lying. CompileOutput dir lying out (is_err made))
   whole_for None made out e is = tt
   whole_for (Some lying) made out e is = record { made = made; compiled = is; written = e; refused = refl }
 
-  whole_by : (made : Result (List ℕ) Fault) (out : List ℕ) → IfSome told.files (λ lying. CompileOutput dir lying out (is_err made)) → Whole (Compile dir) told taken out (compiled_status made)
+  whole_by : (made : Result SchemaParts Fault) (out : List ℕ) → IfSome told.files (λ lying. CompileOutput dir lying out (is_err made)) → Whole (Compile dir) told taken out (compiled_status made)
   unfolding compiled_status
-  whole_by (Ok print) out is = is
+  whole_by (Ok schema) out is = is
   whole_by (Err fault) out is = is
 
-  pub whole : (made : Result (List ℕ) Fault) (out : List ℕ) → out ≡ compile_text made → IfSome told.files (λ lying. IsCompiled dir lying made) → Whole (Compile dir) told taken out (compiled_status made)
+  pub whole : (made : Result SchemaParts Fault) (out : List ℕ) → out ≡ compile_text made → IfSome told.files (λ lying. IsCompiled dir lying made) → Whole (Compile dir) told taken out (compiled_status made)
   whole made out e is = whole_by made out (whole_for told.files made out e is)
 
-  pub printed_ran : (old new : Option (List ℕ)) (print : List ℕ) → Appends old new print → IfSome told.files (λ lying. IsCompiled dir lying (Ok print)) → Written old new (λ out. Wrote (Compile dir) told Done taken out)
+  pub printed_ran : (old new : Option (List ℕ)) (schema : SchemaParts) → Appends old new (schema_text schema) → IfSome told.files (λ lying. IsCompiled dir lying (Ok schema)) → Written old new (λ out. Wrote (Compile dir) told Done taken out)
   unfolding compiled_status
-  printed_ran old new print appends is = record { out = print; appends = appends; holds = (whole (Ok print) print refl is, tt) }
+  printed_ran old new schema appends is = record { out = schema_text schema; appends = appends; holds = (whole (Ok schema) (schema_text schema) refl is, tt) }
 
   pub refused_ran : (old new : Option (List ℕ)) (fault : Fault) → Appends old new (compile_text (Err fault)) → IfSome told.files (λ lying. IsCompiled dir lying (Err fault)) → Written old new (λ out. Wrote (Compile dir) told InputRefused taken out)
   unfolding compiled_status
   refused_ran old new fault appends is = record { out = compile_text (Err fault); appends = appends; holds = whole (Err fault) (compile_text (Err fault)) refl is }
 
-  pub broken_ran : (old new : Option (List ℕ)) (made : Result (List ℕ) Fault) → AppendsPrefix old new (compile_text made) → IfSome told.files (λ lying. IsCompiled dir lying made) → Written old new (λ out. Wrote (Compile dir) told WriteFault taken out)
+  pub broken_ran : (old new : Option (List ℕ)) (made : Result SchemaParts Fault) → AppendsPrefix old new (compile_text made) → IfSome told.files (λ lying. IsCompiled dir lying made) → Written old new (λ out. Wrote (Compile dir) told WriteFault taken out)
   broken_ran old new made front is = record {
     out = take front.0 (compile_text made);
     appends = front.1;

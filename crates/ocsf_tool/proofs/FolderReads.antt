@@ -18,7 +18,6 @@ use Rattle.ocsf_bundle.specs.Stored.{Stored, stored_path}
 use Rattle.ocsf_bundle.specs.Listing.{in_byte_order}
 use Rattle.ocsf_bundle.proofs.Listed.{in_byte_order-push}
 use Rattle.ocsf_schema.specs.declared.parts.SchemaParts.{SchemaParts}
-use Rattle.ocsf_schema.specs.Schema.{schema_text}
 use Rattle.ocsf_rules.specs.Compilation.{compilation, IsCompilation}
 use Rattle.ocsf_rules.specs.Verdict.{IsVerdict}
 use Rattle.ocsf_tool.specs.declared.folder_error.FolderError.{FolderError}
@@ -135,9 +134,9 @@ refused dir lying bundle f of verdict = record {
   compiled = inr (of.files, of.are_files, subst (λ b. IsVerdict b (Some f)) of.all verdict);
 }
 
-pub printed : (dir : List ℕ) (lying : List KeptFile) (bundle : Stored) (schema : SchemaParts) → IsBundleOf dir lying bundle → IsVerdict bundle None → IsCompilation bundle schema → IsCompiled dir lying (Ok (schema_text schema))
+pub printed : (dir : List ℕ) (lying : List KeptFile) (bundle : Stored) (schema : SchemaParts) → IsBundleOf dir lying bundle → IsVerdict bundle None → IsCompilation bundle schema → IsCompiled dir lying (Ok schema)
 printed dir lying bundle schema of verdict is = record {
   listed = of.listed;
   listing = of.listing;
-  compiled = inr (of.files, of.are_files, (subst (λ b. IsVerdict b None) of.all verdict, ap schema_text (is ∙ ap compilation of.all)));
+  compiled = inr (of.files, of.are_files, (subst (λ b. IsVerdict b None) of.all verdict, is ∙ ap compilation of.all));
 }

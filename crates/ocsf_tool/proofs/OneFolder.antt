@@ -10,6 +10,7 @@ use Rattle.ocsf_edge.specs.declared.records.KeptFile.{KeptFile}
 use Rattle.ocsf_edge.specs.Folder.{IsListing, body_at, paths_below}
 use Rattle.ocsf_tree.specs.declared.tree.Tree.{Tree}
 use Rattle.ocsf_tree.specs.declared.fault.Fault.{Fault}
+use Rattle.ocsf_schema.specs.declared.parts.SchemaParts.{SchemaParts}
 use Rattle.ocsf_tree.specs.declared.reader.TreeError.{TreeError}
 use Rattle.ocsf_tree.specs.declared.reader.TreeError.TheVariants.{NotJson, NumberNotWhole, Memory}
 use Rattle.ocsf_tree.specs.ByName.{text_cmp, at_name}
@@ -200,7 +201,7 @@ module _ (dir : List ℕ) (lying : List KeptFile) where
 
   -- ---- all of them together
 
-  one_compiled : (bundle : Stored) → AreDecided (types_of bundle) → (a b : Result (List ℕ) Fault) → AreCompiledAs bundle a → AreCompiledAs bundle b → a ≡ b
+  one_compiled : (bundle : Stored) → AreDecided (types_of bundle) → (a b : Result SchemaParts Fault) → AreCompiledAs bundle a → AreCompiledAs bundle b → a ≡ b
   one_compiled bundle decided (Ok x) (Ok y) a b = ap Ok (a.1 ∙ sym b.1)
   one_compiled bundle decided (Ok x) (Err g) a b = absurd (none_or_some g (one_verdict bundle None (Some g) decided a.0 b))
   one_compiled bundle decided (Err f) (Ok y) a b = absurd (none_or_some f (one_verdict bundle None (Some f) decided b.0 a))
@@ -210,7 +211,7 @@ module _ (dir : List ℕ) (lying : List KeptFile) where
     faulty_or_whole : (f : Fault) (files : List StoredFile) → IsFirstFileFault dir lying paths f → AreFilesAt dir lying paths files → ⊥
     faulty_or_whole f files first whole = all_or_first first.before first.path first.after files f (first.stands ∙ sym whole.paths_of) whole.each first.faulty
 
-    of_paths : (a b : Result (List ℕ) Fault) → ArePathsCompiled dir lying paths a → ArePathsCompiled dir lying paths b → a ≡ b
+    of_paths : (a b : Result SchemaParts Fault) → ArePathsCompiled dir lying paths a → ArePathsCompiled dir lying paths b → a ≡ b
     of_paths a b (inl (f, first, x)) (inl (g, other, y)) =
         x
         ∙ ap Err (one_first first.before first.path first.after other.before other.path other.after f g (first.stands ∙ sym other.stands) first.each other.each first.faulty other.faulty)

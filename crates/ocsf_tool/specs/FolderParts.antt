@@ -12,8 +12,6 @@ use Rattle.ocsf_raw.specs.Forms.{has_form}
 use Rattle.ocsf_bundle.specs.declared.stored.StoredFile.{StoredFile}
 use Rattle.ocsf_bundle.specs.Stored.{Stored}
 use Rattle.ocsf_bundle.specs.Listing.{in_byte_order}
-use Rattle.ocsf_schema.specs.declared.parts.SchemaParts.{SchemaParts}
-use Rattle.ocsf_schema.specs.Schema.{schema_text}
 use Rattle.ocsf_tool.specs.declared.folder_error.FolderError.{FolderError}
 use Rattle.ocsf_tool.specs.declared.folder_error.FolderError.TheVariants.{Fault as Faulty, FolderFault, Memory}
 use Rattle.ocsf_tool.specs.Folders.{AreFilesAt, IsFirstFileFault, IsCompiled, all_enabled}
@@ -69,8 +67,3 @@ pub record IsBundleOf (dir : List ℕ) (lying : List KeptFile) (bundle : Stored)
 abbrev pub IsBundleOrFault : List ℕ → List KeptFile → Result Stored Fault → Type 0
 IsBundleOrFault dir lying (Ok bundle) = IsBundleOf dir lying bundle
 IsBundleOrFault dir lying (Err fault) = IsCompiled dir lying (Err fault)
-
--- the schema of a folder
-abbrev pub IsSchemaOrFault : List ℕ → List KeptFile → Result SchemaParts Fault → Type 0
-IsSchemaOrFault dir lying (Ok schema) = IsCompiled dir lying (Ok (schema_text schema))
-IsSchemaOrFault dir lying (Err fault) = IsCompiled dir lying (Err fault)

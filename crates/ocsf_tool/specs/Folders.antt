@@ -1,4 +1,4 @@
--- The command `compile`: the files of a folder, and the schema or the fault that they come to.
+-- A folder: its files, and the schema or the fault that they come to; and the output of the command `compile`.
 use Rattle.std.specs.Prelude.{
   ◌≡◌,
   ℕ,
@@ -40,6 +40,7 @@ use Rattle.ocsf_tree.specs.Place.{pointer_text}
 use Rattle.ocsf_tree.specs.Reading.{IsReading}
 use Rattle.ocsf_raw.specs.declared.file_shape.RawError.TheVariants as error
 use Rattle.ocsf_raw.specs.Forms.{has_form}
+use Rattle.ocsf_schema.specs.declared.parts.SchemaParts.{SchemaParts}
 use Rattle.ocsf_schema.specs.Schema.{schema_text}
 use Rattle.ocsf_bundle.specs.declared.stored.StoredFile.{StoredFile}
 use Rattle.ocsf_bundle.specs.Stored.{Stored, stored_path}
@@ -113,19 +114,19 @@ extension_name file = option_map (λ ext. ext.name) (extension_said file.raw)
 abbrev pub all_enabled : List StoredFile → Stored
 all_enabled files = record { files = files; enabled = in_byte_order (filter_map extension_name files) }
 
--- what files come to: the printed schema exactly where they have no fault, or their fault
-abbrev pub AreCompiledAs : Stored → Result (List ℕ) Fault → Type 0
-AreCompiledAs bundle (Ok print) = IsVerdict bundle None × (print ≡ schema_text (compilation bundle))
+-- what files come to: their schema exactly where they have no fault, or their fault
+abbrev pub AreCompiledAs : Stored → Result SchemaParts Fault → Type 0
+AreCompiledAs bundle (Ok schema) = IsVerdict bundle None × (schema ≡ compilation bundle)
 AreCompiledAs bundle (Err fault) = IsVerdict bundle (Some fault)
 
 -- what paths come to: the first fault of a file, or else what the files come to together
-abbrev pub ArePathsCompiled : List ℕ → List KeptFile → List (List ℕ) → Result (List ℕ) Fault → Type 0
+abbrev pub ArePathsCompiled : List ℕ → List KeptFile → List (List ℕ) → Result SchemaParts Fault → Type 0
 ArePathsCompiled dir lying paths made =
     ((fault : Fault) × IsFirstFileFault dir lying paths fault × (made ≡ Err fault))
     ⊎ ((files : List StoredFile) × AreFilesAt dir lying paths files × AreCompiledAs (all_enabled files) made)
 
 -- What a folder comes to. Of the paths below it those count at which a file of a schema may stand, in byte order.
-pub record IsCompiled (dir : List ℕ) (lying : List KeptFile) (made : Result (List ℕ) Fault) : Type 0 where
+pub record IsCompiled (dir : List ℕ) (lying : List KeptFile) (made : Result SchemaParts Fault) : Type 0 where
   pub listed : List (List ℕ)
   pub listing : IsListing dir lying listed
   pub compiled : ArePathsCompiled dir lying (in_byte_order (filter has_form listed)) made
@@ -133,13 +134,13 @@ pub record IsCompiled (dir : List ℕ) (lying : List KeptFile) (made : Result (L
 -- ---- the output
 
 -- the printed schema, or the line that refuses the folder
-abbrev pub compile_text : Result (List ℕ) Fault → List ℕ
-compile_text (Ok print) = print
+abbrev pub compile_text : Result SchemaParts Fault → List ℕ
+compile_text (Ok schema) = schema_text schema
 compile_text (Err fault) = text (refused_tree fault) ++ 10 ∷ []
 
 -- The whole output of `compile` over a folder. Tells whether it was refused.
 pub record CompileOutput (dir : List ℕ) (lying : List KeptFile) (out : List ℕ) (is_refused : Bool) : Type 0 where
-  pub made : Result (List ℕ) Fault
+  pub made : Result SchemaParts Fault
   pub compiled : IsCompiled dir lying made
   pub written : out ≡ compile_text made
   pub refused : is_refused ≡ is_err made

@@ -12,6 +12,7 @@ use Rattle.ocsf_bundle.specs.Edits.{IsEdit}
 use Rattle.ocsf_bundle.specs.After.{IsAfter}
 use Rattle.ocsf_bundle.specs.Listing.{in_byte_order}
 use Rattle.ocsf_bundle.specs.Stored.{Stored}
+use Rattle.ocsf_schema.specs.declared.parts.SchemaParts.{SchemaParts}
 use Rattle.ocsf_rules.specs.Verdict.{types_of, AreDecided}
 use Rattle.ocsf_tool.specs.declared.status.Status.TheVariants.{Limit}
 use Rattle.ocsf_tool.specs.Commands.{Command}
@@ -40,9 +41,9 @@ AreFilesOf dir lying files =
     (listed : List (List ℕ)) × IsListing dir lying listed
     × AreFilesAt dir lying (in_byte_order (filter has_form listed)) files
 
--- a folder comes to one printed schema or to one fault, where each pattern of its files is good or bad
+-- a folder comes to one schema or to one fault, where each pattern of its files is good or bad
 abbrev pub HasOneSchema : Type 0
-HasOneSchema = (dir : List ℕ) (lying : List KeptFile) (a b : Result (List ℕ) Fault)
+HasOneSchema = (dir : List ℕ) (lying : List KeptFile) (a b : Result SchemaParts Fault)
     → ((files : List StoredFile) → AreFilesOf dir lying files → AreDecided (types_of (all_enabled files)))
     → IsCompiled dir lying a → IsCompiled dir lying b → a ≡ b
 

@@ -6,7 +6,7 @@ ghost use Rattle.ocsf_tree.specs.ByName.{IsByName};
 ghost use Rattle.ocsf_raw.specs.Forms.{has_form};
 ghost use Rattle.ocsf_bundle.specs.Stored.{stored_path, IsStoredSound, AreFilesSound};
 ghost use Rattle.ocsf_bundle.specs.Listing.{in_byte_order};
-ghost use Rattle.ocsf_tool.specs.Folders.{file_fault, extension_name, IsWritten, IsFile};
+ghost use Rattle.ocsf_tool.specs.Folders.{file_fault, extension_name, IsWritten, IsFile, IsCompiled};
 ghost use Rattle.ocsf_tool.specs.FolderParts.{
   HasFolderCause,
   formed,
@@ -15,7 +15,6 @@ ghost use Rattle.ocsf_tool.specs.FolderParts.{
   IsGot,
   AreFilesOrFault,
   IsBundleOrFault,
-  IsSchemaOrFault,
 };
 
 use crate::compilation::schema_of;
@@ -186,7 +185,7 @@ pub fn compile_folder<F: Folder>(
     folder: &mut F,
     dir: &str,
 ) -> Result<Schema, FolderError>
-    ensures schema { IfSome (F.files folder.old) (λ lying. IsGot (IsSchemaOrFault dir.now lying) result) }
+    ensures schema { IfSome (F.files folder.old) (λ lying. IsGot (IsCompiled dir.now lying) result) }
     ensures cause { HasFolderCause (F.folder_faults folder.old) (F.folder_faults folder.new) result }
 {
     let bundle = bundle_of(alloc, folder, dir)?;

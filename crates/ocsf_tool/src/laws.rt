@@ -7,7 +7,7 @@ pub fn a_line_has_one_outcome()
     ensures { HasOneOutcome }
 {}
 
-/// A folder comes to one printed schema or to one fault, where each pattern of its files is such a one.
+/// A folder comes to one schema or to one fault, where each pattern of its files is such a one.
 pub fn a_folder_comes_to_one_schema_or_one_fault()
     ensures { HasOneSchema }
 {}

@@ -1,6 +1,5 @@
 use Rattle.std.proofs.Common.{Some, Ok, Err, rules}
 use Rattle.ocsf_rules.specs.Verdict.{IsVerdict}
-use Rattle.ocsf_schema.specs.Schema.{schema_text}
 use Rattle.ocsf_tool.specs.Folders.{IsCompiled}
 use Rattle.ocsf_tool.specs.FolderParts.{IsBundleOf}
 use Rattle.ocsf_tool.proofs.FolderReads.{told_by, refused, printed}
@@ -11,7 +10,7 @@ returns-in-Ok-clause-schema g c =
     let dir = c.args.dir.now in
     let bundle = c.in_ok-bundle.bundle in
     let schema = c.in-Ok.schema in
-    told_by (λ lying. IsBundleOf dir lying bundle) (λ lying. IsCompiled dir lying (Ok (schema_text schema)))
+    told_by (λ lying. IsBundleOf dir lying bundle) (λ lying. IsCompiled dir lying (Ok schema))
     (λ lying of. printed dir lying bundle schema of c.in-Ok.ensures.clean c.in-Ok.ensures.schema)
     (g.F.Folder.files c.args.folder.now) c.in_ok-bundle.ensures.bundle
 

@@ -1,6 +1,5 @@
 use Rattle.std.proofs.Common.{Ok, Err, ap, rules}
 use Rattle.std.specs.Prelude.{IfSome}
-use Rattle.ocsf_schema.specs.Schema.{schema_text}
 use Rattle.ocsf_tool.specs.Folders.{IsCompiled}
 use Rattle.ocsf_tool.proofs.FolderRan.{broken_ran, refusal_ran}
 use Rattle.ocsf_tool.proofs.folder_run.run_compile.Goals as goal
@@ -9,7 +8,7 @@ pub returns-in-Ok-clause-ran : goal.returns-in-Ok-clause-ran
 returns-in-Ok-clause-ran g c = λ told taken.
     broken_ran c.args.dir.now (record told { files = g.F.Folder.files c.args.folder.now }) taken
     (g.K.Sink.written c.args.sink.now) (g.K.Sink.written c.write_to.new.sink)
-    (Ok (schema_text c.in-Ok.schema)) c.in-Err.ensures.err c.in-Ok.ensures.schema
+    (Ok c.in-Ok.schema) c.in-Err.ensures.err c.in-Ok.ensures.schema
 
 pub returns-in-Err-Fault-clause-ran : goal.returns-in-Err-Fault-clause-ran
 returns-in-Err-Fault-clause-ran g c = λ told taken.
