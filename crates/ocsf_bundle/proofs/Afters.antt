@@ -12,14 +12,14 @@ use Rattle.std.proofs.lemmas.List.{take_more, get_or_default}
 use Rattle.std.proofs.lemmas.List.Elements.{filter_map-append}
 use Rattle.std.proofs.lemmas.Bool.{and_from, and_parts, cases_lt}
 use Rattle.std.proofs.lemmas.Map.Text.{is_eq-slice_cmp}
-use Rattle.ocsf_tree.specs.ByName.{text_cmp, named, at_name, is_by_name, IsByName}
-use Rattle.ocsf_tree.specs.FirstOfEach.{first_of_each}
+use Rattle.ocsf_lists.specs.ByName.{text_cmp, named, at_name, is_by_name, IsByName}
+use Rattle.ocsf_lists.specs.FirstOfEach.{first_of_each}
 use Rattle.ocsf_tree.specs.declared.tree.Tree.{Tree}
 use Rattle.ocsf_tree.specs.declared.fault.Fault.{Fault}
 use Rattle.ocsf_raw.specs.declared.path_form.Form.{Form}
 use Rattle.ocsf_raw.specs.Forms.{form_of}
-use Rattle.ocsf_tree.proofs.NameLists.{same_text}
-use Rattle.ocsf_tree.proofs.FirstOfEach.{same_lists, name-at_name, at_name-append, IsByName-first_of_each, at_name-first_of_each}
+use Rattle.ocsf_lists.proofs.NameLists.{same_text}
+use Rattle.ocsf_lists.proofs.FirstOfEach.{same_lists, name-at_name, at_name-append, IsByName-first_of_each, at_name-first_of_each}
 use Rattle.ocsf_bundle.specs.declared.edit.Change.{Change}
 use Rattle.ocsf_bundle.specs.declared.edit.Change.TheVariants as change
 use Rattle.ocsf_bundle.specs.declared.stored.StoredFile.{StoredFile}

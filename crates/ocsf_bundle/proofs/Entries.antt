@@ -11,8 +11,8 @@ use Rattle.std.specs.Map.{keys_of, lookup}
 use Rattle.std.specs.BTreeMap.{is_at}
 use Rattle.std.specs.FinMap.Entries.{below_all}
 use Rattle.std.proofs.lemmas.Bool.{and_from}
-use Rattle.ocsf_tree.specs.ByName.{text_cmp, named, at_name, IsByName}
-use Rattle.ocsf_tree.proofs.NameLists.{same_text}
+use Rattle.ocsf_lists.specs.ByName.{text_cmp, named, at_name, IsByName}
+use Rattle.ocsf_lists.proofs.NameLists.{same_text}
 
 module _ {A X : Type 0} (name : X → List ℕ) (item : (List ℕ × A) → X) where
   -- each item has the key of its entry as its name

@@ -14,9 +14,9 @@ use Rattle.std.specs.FinMap.Entries.{below_all}
 use Rattle.std.proofs.lemmas.List.{take_more}
 use Rattle.std.proofs.lemmas.List.Elements.{filter-append}
 use Rattle.std.proofs.lemmas.Map.Text.{is_eq-slice_cmp}
-use Rattle.ocsf_tree.specs.ByName.{text_cmp, named, at_name, is_by_name, IsByName}
-use Rattle.ocsf_tree.proofs.NameLists.{same_text}
-use Rattle.ocsf_tree.proofs.FirstOfEach.{same_lists, IsByName-first_of_each, at_name-first_of_each}
+use Rattle.ocsf_lists.specs.ByName.{text_cmp, named, at_name, is_by_name, IsByName}
+use Rattle.ocsf_lists.proofs.NameLists.{same_text}
+use Rattle.ocsf_lists.proofs.FirstOfEach.{same_lists, IsByName-first_of_each, at_name-first_of_each}
 use Rattle.ocsf_bundle.specs.declared.groups.Group.{Group}
 use Rattle.ocsf_bundle.specs.declared.stored.ActiveFile.{ActiveFile}
 use Rattle.ocsf_bundle.specs.Keys.{gives, giving, keys_given}

@@ -11,8 +11,8 @@ use Rattle.ocsf_tree.specs.declared.key.Side.{Side}
 use Rattle.ocsf_tree.specs.declared.key.Side.TheVariants as side
 use Rattle.ocsf_tree.specs.declared.key.Key.{Key}
 use Rattle.ocsf_tree.specs.Key.{key_text}
-use Rattle.ocsf_tree.specs.ByName.{text_cmp, named, at_name, is_by_name, IsByName}
-use Rattle.ocsf_tree.proofs.FirstOfEach.{at_name-append, IsByName-first_of_each, at_name-first_of_each}
+use Rattle.ocsf_lists.specs.ByName.{text_cmp, named, at_name, is_by_name, IsByName}
+use Rattle.ocsf_lists.proofs.FirstOfEach.{at_name-append, IsByName-first_of_each, at_name-first_of_each}
 use Rattle.ocsf_raw.specs.declared.files.RawFile.{RawFile}
 use Rattle.ocsf_raw.specs.declared.files.RawFile.TheVariants as raw
 use Rattle.ocsf_bundle.specs.declared.stored.ActiveFile.{ActiveFile}

@@ -10,7 +10,7 @@ use Rattle.std.proofs.lemmas.Cmp.{tied_itself, nat_cmp_total}
 use Rattle.std.proofs.lemmas.Map.Lookups.{exact_unsigned}
 use Rattle.std.proofs.lemmas.List.{take_more}
 use Rattle.std.proofs.lemmas.List.Folds.{list_any-append}
-use Rattle.ocsf_tree.specs.ByName.{text_cmp}
+use Rattle.ocsf_lists.specs.ByName.{text_cmp}
 use Rattle.ocsf_bundle.specs.declared.numbers.Numbered.{Numbered}
 use Rattle.ocsf_bundle.specs.BundleFaults.{is_before}
 use Rattle.ocsf_bundle.specs.OwnFaults.{has_lesser}

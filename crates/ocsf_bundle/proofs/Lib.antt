@@ -1,4 +1,3 @@
-mod Examples
 pub mod Afters
 pub mod CellOrders
 pub mod Counted

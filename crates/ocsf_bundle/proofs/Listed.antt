@@ -10,9 +10,9 @@ use Rattle.std.specs.FinMap.Entries.{by_order}
 use Rattle.std.specs.BTreeSet.{insert_key}
 use Rattle.std.proofs.lemmas.List.{map_more, take_more}
 use Rattle.std.proofs.lemmas.List.Concat.{flat_map-append}
-use Rattle.ocsf_tree.specs.ByName.{text_cmp, at_name, put_by_name}
-use Rattle.ocsf_tree.proofs.NameLists.{same_text}
-use Rattle.ocsf_tree.proofs.FirstOfEach.{same_lists, name-at_name, at_name-append, IsByName-first_of_each, at_name-first_of_each}
+use Rattle.ocsf_lists.specs.ByName.{text_cmp, at_name, put_by_name}
+use Rattle.ocsf_lists.proofs.NameLists.{same_text}
+use Rattle.ocsf_lists.proofs.FirstOfEach.{same_lists, name-at_name, at_name-append, IsByName-first_of_each, at_name-first_of_each}
 use Rattle.ocsf_raw.specs.declared.dictionary.DictEntry.{DictEntry}
 use Rattle.ocsf_raw.specs.declared.dictionary.TypeEntry.{TypeEntry}
 use Rattle.ocsf_raw.specs.declared.files.CategoryEntry.{CategoryEntry}

@@ -10,9 +10,9 @@ use Rattle.std.specs.Cmp.Lexicographic.{nat_list_cmp_total}
 use Rattle.std.proofs.lemmas.List.{take_more, get_or_default}
 use Rattle.std.proofs.lemmas.List.Elements.{All-head, All-tail}
 use Rattle.std.proofs.lemmas.Map.Views.{All-found}
-use Rattle.ocsf_tree.specs.ByName.{text_cmp, at_name, IsByName}
-use Rattle.ocsf_tree.proofs.NameLists.{same_text, text_cmp-same, in_order, at_name-none, at_name-at}
-use Rattle.ocsf_tree.proofs.FirstOfEach.{at_name-append}
+use Rattle.ocsf_lists.specs.ByName.{text_cmp, at_name, IsByName}
+use Rattle.ocsf_lists.proofs.NameLists.{same_text, text_cmp-same, in_order, at_name-none, at_name-at}
+use Rattle.ocsf_lists.proofs.FirstOfEach.{at_name-append}
 use Rattle.ocsf_bundle.specs.NamedMap.{values_in}
 use Rattle.ocsf_bundle.proofs.Entries.{KeepKeys, IsByName-entries, at_name-entries}
 

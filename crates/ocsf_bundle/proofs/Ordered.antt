@@ -6,7 +6,7 @@ use Rattle.std.specs.List.{filter_map, cons_option}
 use Rattle.std.specs.Borrow.{Bor}
 use Rattle.std.specs.Ordering.{is_eq}
 use Rattle.std.proofs.lemmas.List.Elements.{All-cons, All-head, All-tail}
-use Rattle.ocsf_tree.specs.ByName.{text_cmp, at_name}
+use Rattle.ocsf_lists.specs.ByName.{text_cmp, at_name}
 use Rattle.ocsf_bundle.specs.Active.{into_order, in_order}
 
 -- what holds of each holds of the one that is found

@@ -1,7 +1,7 @@
 -- What dictionaries say of a type, and the way that is left.
 use Rattle.std.proofs.Common.{◌≡◌, ℕ, suc, zero, ◌-◌, ◌<◌, List, [], ◌∷◌, ◌++◌, Bool, true, false, ◌||◌, not, if◌then◌else◌, is_some, Option, Some, None, unwrap_or, refl, sym, ap, ◌∙◌, arith}
 use Rattle.std.specs.Option.{option_or}
-use Rattle.ocsf_tree.proofs.Givens.{last_given-push}
+use Rattle.ocsf_lists.proofs.Givens.{last_given-push}
 use Rattle.ocsf_tree.specs.declared.fault.Fault.{Fault}
 use Rattle.ocsf_tree.specs.declared.fault.Code.TheVariants as code
 use Rattle.ocsf_raw.specs.declared.dictionary.TypeEntry.{TypeEntry}

@@ -7,8 +7,8 @@ use Rattle.std.specs.Str.{bytes_eq}
 use Rattle.ocsf_tree.specs.declared.tree.Tree.{Tree}
 use Rattle.ocsf_tree.specs.declared.fault.Code.TheVariants as code
 use Rattle.ocsf_tree.specs.declared.fault.Fault.{Fault}
-use Rattle.ocsf_tree.specs.ByName.{at_name}
-use Rattle.ocsf_tree.specs.FirstOfEach.{first_of_each}
+use Rattle.ocsf_lists.specs.ByName.{at_name}
+use Rattle.ocsf_lists.specs.FirstOfEach.{first_of_each}
 use Rattle.ocsf_tree.specs.CompactText.{text}
 use Rattle.ocsf_raw.specs.declared.files.RawFile.{RawFile}
 use Rattle.ocsf_raw.specs.declared.file_shape.RawError.{RawError}

@@ -7,8 +7,8 @@ use Rattle.std.specs.Option.{option_map_or, option_and_then, option_or}
 use Rattle.std.specs.List.{filter_map, list_any, sum_by}
 use Rattle.std.specs.Str.{bytes_eq}
 use Rattle.std.specs.Ordering.{is_lt}
-use Rattle.ocsf_tree.specs.Given.{last_given}
-use Rattle.ocsf_tree.specs.ByName.{text_cmp}
+use Rattle.ocsf_lists.specs.Given.{last_given}
+use Rattle.ocsf_lists.specs.ByName.{text_cmp}
 use Rattle.ocsf_tree.specs.Key.{side_text}
 pub use Rattle.ocsf_tree.specs.Fault.{fault}
 use Rattle.ocsf_tree.specs.LeastFault.{least_fault}

@@ -3,7 +3,7 @@ use Rattle.std.specs.Prelude.{ℕ, List, [], ◌∷◌, ◌&&◌, if◌then◌el
 use Rattle.std.specs.Option.{option_and_then, option_map, option_map_or}
 use Rattle.std.specs.List.{filter_map, before_first, after_first}
 use Rattle.std.specs.Str.{bytes_eq}
-use Rattle.ocsf_tree.specs.ByName.{at_name}
+use Rattle.ocsf_lists.specs.ByName.{at_name}
 use Rattle.ocsf_raw.specs.Names.{is_slash, has_slash}
 use Rattle.ocsf_raw.specs.declared.dictionary.DictEntry.{DictEntry}
 use Rattle.ocsf_raw.specs.declared.dictionary.TypeEntry.{TypeEntry}

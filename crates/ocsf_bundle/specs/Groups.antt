@@ -3,7 +3,7 @@ use Rattle.std.specs.Prelude.{ℕ, List, [], ◌∷◌, ◌++◌, map, Option, S
 use Rattle.std.specs.Option.{option_map_or}
 use Rattle.std.specs.Str.{bytes_eq}
 use Rattle.std.specs.BTreeMap.{BTreeMap}
-use Rattle.ocsf_tree.specs.ByName.{at_name}
+use Rattle.ocsf_lists.specs.ByName.{at_name}
 use Rattle.ocsf_bundle.specs.declared.keys.GroupBy.{GroupBy}
 use Rattle.ocsf_bundle.specs.declared.keys.GroupBy.TheVariants as by
 use Rattle.ocsf_bundle.specs.declared.groups.Group.{Group}

@@ -2,7 +2,7 @@
 -- index is that of
 -- the files that count.
 use Rattle.std.specs.Prelude.{◌≡◌, ℕ, List}
-use Rattle.ocsf_tree.specs.ByName.{IsByName}
+use Rattle.ocsf_lists.specs.ByName.{IsByName}
 use Rattle.ocsf_bundle.specs.declared.bundle.Bundle.TheInside.{Inside}
 use Rattle.ocsf_bundle.specs.Stored.{Stored, stored_path, AreFilesSound}
 use Rattle.ocsf_bundle.specs.Active.{active_files}

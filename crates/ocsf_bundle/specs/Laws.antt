@@ -1,7 +1,7 @@
 -- What holds of the keys of all files.
 use Rattle.std.specs.Prelude.{◌≡◌, List, Some, None, if◌then◌else◌}
 use Rattle.ocsf_tree.specs.declared.key.Key.{Key}
-use Rattle.ocsf_tree.specs.ByName.{IsByName, at_name}
+use Rattle.ocsf_lists.specs.ByName.{IsByName, at_name}
 use Rattle.ocsf_tree.specs.Key.{key_text}
 use Rattle.ocsf_bundle.specs.declared.stored.ActiveFile.{ActiveFile}
 use Rattle.ocsf_bundle.specs.Active.{in_layers}

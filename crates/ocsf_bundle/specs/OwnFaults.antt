@@ -3,7 +3,7 @@ use Rattle.std.specs.Prelude.{ℕ, ◌++◌, not, Bool, false, List, [], length,
 use Rattle.std.specs.List.{filter_map}
 use Rattle.std.specs.Option.{option_map_or, option_and_then, option_or}
 use Rattle.std.specs.Ordering.{is_lt}
-use Rattle.ocsf_tree.specs.ByName.{text_cmp}
+use Rattle.ocsf_lists.specs.ByName.{text_cmp}
 use Rattle.ocsf_tree.specs.Key.{side_text}
 use Rattle.ocsf_tree.specs.LeastFault.{lesser_fault, least_fault}
 use Rattle.ocsf_tree.specs.declared.fault.Fault.{Fault}

@@ -12,7 +12,7 @@ use Rattle.ocsf_bundle.specs.Shown.{Shown, There, Item, Profile, Kind, Other, Ex
 use Rattle.ocsf_bundle.specs.Looks.{show_patch, show_included, show_entry, show_category}
 use Rattle.ocsf_bundle.specs.FilesLook.{item_of, patch_of, profile_of, include_of, dict_of, kind_of, category_of}
 use Rattle.ocsf_bundle.specs.FilesLook.{extension_file_of}
-use Rattle.ocsf_tree.specs.ByName.{IsByName}
+use Rattle.ocsf_lists.specs.ByName.{IsByName}
 use Rattle.ocsf_bundle.specs.Groups.{group_name, group_at}
 use Rattle.ocsf_bundle.specs.Index.{groups_by_side}
 

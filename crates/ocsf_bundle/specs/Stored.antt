@@ -1,7 +1,7 @@
 -- The files of a bundle.
 use Rattle.std.specs.Prelude.{ℕ, List, All, IfSome}
 use Rattle.std.specs.BTreeMap.{BTreeMap, get}
-use Rattle.ocsf_tree.specs.ByName.{text_cmp}
+use Rattle.ocsf_lists.specs.ByName.{text_cmp}
 use Rattle.ocsf_raw.specs.Ordered.{IsFileOrdered, AreFileNumbersInRange}
 use Rattle.ocsf_bundle.specs.declared.stored.StoredFile.{StoredFile}
 use Rattle.ocsf_bundle.specs.declared.stored.ActiveFile.{ActiveFile}

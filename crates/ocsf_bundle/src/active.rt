@@ -1,8 +1,8 @@
 // The files that count: those of core, and those of the folders whose extension is enabled, in layers.
 ghost use Rattle.std.specs.Prelude.{◌≡◌, IfOk};
 ghost use Rattle.std.specs.Option.{option_copied};
-ghost use Rattle.ocsf_tree.specs.Among.{is_among};
-ghost use Rattle.ocsf_tree.specs.ByName.{IsByName};
+ghost use Rattle.ocsf_lists.specs.Among.{is_among};
+ghost use Rattle.ocsf_lists.specs.ByName.{IsByName};
 ghost use Rattle.ocsf_bundle.specs.Stored.{stored_path};
 ghost use Rattle.ocsf_bundle.specs.Active.{is_of_extension, extension_folder, path_below, extension_path, is_enabled};
 ghost use Rattle.ocsf_bundle.specs.Active.{extension_said, extension_in, active_file, active_files, extension_of};

@@ -1,7 +1,7 @@
 // A bundle: the files with the enabled extensions, and what is asked of them.
 ghost use Rattle.std.specs.Prelude.{◌≡◌, ℕ, List, [], All, IfOk, slice_get, length, ◌≤◌, IfSome};
 ghost use Rattle.std.specs.Option.{option_copied, option_map};
-ghost use Rattle.ocsf_tree.specs.ByName.{IsByName};
+ghost use Rattle.ocsf_lists.specs.ByName.{IsByName};
 ghost use Rattle.ocsf_bundle.specs.Stored.{stored_path, AreFilesSound};
 ghost use Rattle.ocsf_bundle.specs.Active.{active_files};
 ghost use Rattle.ocsf_bundle.specs.Keys.{active_keys};

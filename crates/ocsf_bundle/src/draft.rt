@@ -1,7 +1,7 @@
 // The files and names that changes leave, one change after the other.
 ghost use Rattle.std.specs.Prelude.{◌≡◌, ℕ, List, All, IfOk, OnOk, unwrap_or};
 ghost use Rattle.std.specs.BTreeMap.{get};
-ghost use Rattle.ocsf_tree.specs.ByName.{IsByName, text_cmp};
+ghost use Rattle.ocsf_lists.specs.ByName.{IsByName, text_cmp};
 ghost use Rattle.ocsf_tree.specs.Valid.{IsValid};
 ghost use Rattle.ocsf_bundle.specs.Stored.{stored_path, AreFilesSound, AreValuesSound};
 ghost use Rattle.ocsf_bundle.specs.Edits.{IsValidChange};

@@ -1,7 +1,7 @@
 // Files in groups by key, each group in the order that its cell shows.
 ghost use Rattle.std.specs.Prelude.{◌≡◌, ℕ, List, IfOk, OnOk, Some};
 ghost use Rattle.std.specs.BTreeMap.{get, IsOrdered};
-ghost use Rattle.ocsf_tree.specs.ByName.{IsByName, text_cmp};
+ghost use Rattle.ocsf_lists.specs.ByName.{IsByName, text_cmp};
 ghost use Rattle.ocsf_bundle.specs.Groups.{group_name, groups_of, given_by, group_at, grown_at, groups_in};
 
 use crate::keys::{GroupBy, given_by};

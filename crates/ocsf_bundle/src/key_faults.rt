@@ -1,7 +1,7 @@
 // Keys that are given twice.
 ghost use Rattle.std.specs.Prelude.{◌≡◌, IfOk};
 ghost use Rattle.std.specs.List.{filter_map};
-ghost use Rattle.ocsf_tree.specs.ByName.{IsByName};
+ghost use Rattle.ocsf_lists.specs.ByName.{IsByName};
 ghost use Rattle.ocsf_tree.specs.LeastFault.{least_from, least_fault};
 ghost use Rattle.ocsf_bundle.specs.Groups.{group_name};
 ghost use Rattle.ocsf_bundle.specs.OwnFaults.{unknown_in, clash_in, clashes_in, key_clashes_in};

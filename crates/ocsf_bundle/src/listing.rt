@@ -1,7 +1,7 @@
 // What there is in a bundle: keys and names, each in byte order and once.
 ghost use Rattle.std.specs.Prelude.{◌≡◌, ℕ, List, ◌∷◌, ◌++◌, IfOk, OnOk, map, flat_map, codes};
 ghost use Rattle.std.specs.Option.{option_copied};
-ghost use Rattle.ocsf_tree.specs.ByName.{put_by_name};
+ghost use Rattle.ocsf_lists.specs.ByName.{put_by_name};
 ghost use Rattle.ocsf_bundle.specs.FilesLook.{attributes_said, types_said, categories_said};
 ghost use Rattle.ocsf_bundle.specs.Groups.{group_name};
 ghost use Rattle.ocsf_bundle.specs.Listing.{attribute_names, type_names, category_keys, in_byte_order, version_said};

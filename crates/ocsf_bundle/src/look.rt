@@ -3,7 +3,7 @@ ghost use Rattle.std.specs.Prelude.{◌≡◌, ◌≤◌, slice_get, IfSome};
 ghost use Rattle.std.specs.Option.{option_map, option_copied};
 ghost use Rattle.ocsf_raw.specs.Ordered.{IsByKey, IsTypeValid};
 ghost use Rattle.ocsf_bundle.specs.Stored.{IsActiveSound};
-ghost use Rattle.ocsf_tree.specs.ByName.{IsByName, at_name};
+ghost use Rattle.ocsf_lists.specs.ByName.{IsByName, at_name};
 ghost use Rattle.ocsf_bundle.specs.Looks.{show_patch, show_entry, show_category};
 ghost use Rattle.ocsf_bundle.specs.Shown.{shown, IsShownOrdered, AreNumbersInRange, Kind, Other};
 ghost use Rattle.ocsf_bundle.specs.FilesLook.{patch_of, include_of, dict_of, kind_of, name_in, local_name};

@@ -1,7 +1,7 @@
 // Maps by a name, and their items in order.
 ghost use Rattle.std.specs.Prelude.{◌≡◌, ℕ, List, IfOk, OnOk, Some, None, is_some};
 ghost use Rattle.std.specs.BTreeMap.{get, IsOrdered};
-ghost use Rattle.ocsf_tree.specs.ByName.{IsByName, at_name, text_cmp};
+ghost use Rattle.ocsf_lists.specs.ByName.{IsByName, at_name, text_cmp};
 ghost use Rattle.ocsf_bundle.specs.NamedMap.{values_in, with_item};
 
 use ocsf_tree::{Named, Row, Text, TryClone};

@@ -1,7 +1,7 @@
 // The least fault of the files as a whole and of their types.
 ghost use Rattle.std.specs.Prelude.{◌≡◌, IfOk, nat_lt, length, codes};
 ghost use Rattle.std.specs.List.{sum_by};
-ghost use Rattle.ocsf_tree.specs.ByName.{IsByName};
+ghost use Rattle.ocsf_lists.specs.ByName.{IsByName};
 ghost use Rattle.ocsf_tree.specs.LeastFault.{least_fault};
 ghost use Rattle.ocsf_bundle.specs.Stored.{stored_path};
 ghost use Rattle.ocsf_bundle.specs.Parts.{AreActiveSound, AreGroupsByName};

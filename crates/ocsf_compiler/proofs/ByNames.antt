@@ -9,7 +9,7 @@ use Rattle.std.proofs.lemmas.Bool.{and_parts}
 use Rattle.ocsf_tree.specs.declared.tree.Tree.TheVariants as tree
 use Rattle.ocsf_tree.specs.declared.tree.Member.{Member}
 use Rattle.ocsf_tree.specs.Valid.{IsValid, IsValidMembers}
-use Rattle.ocsf_tree.specs.ByName.{text_cmp, named, is_by_name, IsByName}
+use Rattle.ocsf_lists.specs.ByName.{text_cmp, named, is_by_name, IsByName}
 use Rattle.ocsf_tree.proofs.Valid.{object_valid}
 use Rattle.ocsf_schema.proofs.ValidFragments.{each_member_valid}
 

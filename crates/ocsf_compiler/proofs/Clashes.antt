@@ -16,7 +16,7 @@ use Rattle.ocsf_tree.specs.declared.key.Side.{Side}
 use Rattle.ocsf_tree.specs.declared.key.Side.TheVariants.{Class, Object}
 use Rattle.ocsf_tree.specs.declared.key.Key.{Key}
 use Rattle.ocsf_tree.specs.Key.{key_text}
-use Rattle.ocsf_tree.specs.ByName.{text_cmp, named, is_by_name, IsByName}
+use Rattle.ocsf_lists.specs.ByName.{text_cmp, named, is_by_name, IsByName}
 use Rattle.ocsf_tree.specs.LeastFault.{rank, least_fault}
 use Rattle.ocsf_tree.proofs.LeastFaults.{least_fault-by_rank}
 use Rattle.ocsf_schema.specs.declared.records.Item.{Item}

@@ -5,11 +5,11 @@ use Rattle.std.specs.Option.{IfSome, option_or, option_map, option_and_then}
 use Rattle.std.proofs.lemmas.List.{reverse-append, take_all}
 use Rattle.ocsf_tree.specs.declared.attribute.EnumMember.{EnumMember}
 use Rattle.ocsf_tree.specs.Valid.{IsValidList}
-use Rattle.ocsf_tree.specs.ByName.{put_by_name}
-use Rattle.ocsf_tree.specs.FirstOfEach.{first_of_each}
-use Rattle.ocsf_tree.proofs.FirstOfEach.{IsByName-first_of_each, first_of_each-by_name}
-use Rattle.ocsf_tree.specs.Given.{first_given}
-use Rattle.ocsf_tree.proofs.Givens.{last_given-push}
+use Rattle.ocsf_lists.specs.ByName.{put_by_name}
+use Rattle.ocsf_lists.specs.FirstOfEach.{first_of_each}
+use Rattle.ocsf_lists.proofs.FirstOfEach.{IsByName-first_of_each, first_of_each-by_name}
+use Rattle.ocsf_lists.specs.Given.{first_given}
+use Rattle.ocsf_lists.proofs.Givens.{last_given-push}
 use Rattle.ocsf_raw.specs.declared.dictionary.DictEntry.{DictEntry}
 use Rattle.ocsf_raw.specs.declared.dictionary.TypeEntry.{TypeEntry}
 use Rattle.ocsf_raw.specs.Ordered.{IsByKey, IsSpanValid, IsTypeValid}

@@ -4,8 +4,8 @@ use Rattle.std.specs.Prelude.{All, flat_map, filter_map, is_some}
 use Rattle.std.specs.Option.{IfSome}
 use Rattle.std.specs.Result.{result_ok}
 use Rattle.std.proofs.lemmas.List.Elements.{All-nil, All-cons}
-use Rattle.ocsf_tree.specs.ByName.{IsByName}
-use Rattle.ocsf_tree.proofs.FirstOfEach.{IsByName-first_of_each}
+use Rattle.ocsf_lists.specs.ByName.{IsByName}
+use Rattle.ocsf_lists.proofs.FirstOfEach.{IsByName-first_of_each}
 use Rattle.ocsf_raw.specs.declared.dictionary.DictEntry.{DictEntry}
 use Rattle.ocsf_raw.specs.declared.dictionary.TypeEntry.{TypeEntry}
 use Rattle.ocsf_raw.specs.Ordered.{IsByKey}

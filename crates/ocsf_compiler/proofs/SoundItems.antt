@@ -6,7 +6,7 @@ use Rattle.std.specs.FinMap.Entries.{below_all}
 use Rattle.ocsf_tree.specs.declared.fault.Fault.{Fault}
 use Rattle.ocsf_tree.specs.declared.key.Key.{Key}
 use Rattle.ocsf_tree.specs.Key.{key_text}
-use Rattle.ocsf_tree.specs.ByName.{text_cmp, named, is_by_name, IsByName}
+use Rattle.ocsf_lists.specs.ByName.{text_cmp, named, is_by_name, IsByName}
 use Rattle.ocsf_tree.specs.LeastFault.{least_fault, IsLeastOf}
 use Rattle.ocsf_tree.proofs.LeastFaults.{least_is_least}
 use Rattle.ocsf_schema.specs.declared.records.Item.{Item}

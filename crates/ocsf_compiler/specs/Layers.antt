@@ -1,7 +1,7 @@
 -- For private clauses: one layer of the dictionaries more.
 use Rattle.std.specs.Prelude.{◌++◌, Option, Some, None}
 use Rattle.std.specs.Option.{option_or}
-use Rattle.ocsf_tree.specs.FirstOfEach.{first_of_each}
+use Rattle.ocsf_lists.specs.FirstOfEach.{first_of_each}
 use Rattle.ocsf_raw.specs.declared.dictionary.DictEntry.{DictEntry}
 use Rattle.ocsf_raw.specs.declared.dictionary.TypeEntry.{TypeEntry}
 use Rattle.ocsf_bundle.specs.Shown.{Shown, Dict, Kind}

@@ -1,6 +1,6 @@
 // A bundle compiled from scratch.
 ghost use Rattle.std.specs.Prelude.{◌≡◌, ◌+◌, ◌≤◌, true, None, is_some, IfOk, IfErr, OnOk, All, length};
-ghost use Rattle.ocsf_tree.specs.ByName.{IsByName};
+ghost use Rattle.ocsf_lists.specs.ByName.{IsByName};
 ghost use Rattle.ocsf_raw.specs.Ordered.{IsTypeValid};
 ghost use Rattle.ocsf_bundle.specs.BundleFaults.{own_fault};
 ghost use Rattle.ocsf_bundle.specs.Listing.{listing};

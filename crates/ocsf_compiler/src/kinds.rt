@@ -1,7 +1,7 @@
 // What types lead to.
 ghost use Rattle.std.specs.Prelude.{◌≡◌, ℕ, List, ◌++◌, IfOk, filter_map};
 ghost use Rattle.std.specs.Result.{result_ok};
-ghost use Rattle.ocsf_tree.specs.ByName.{IsByName, put_by_name};
+ghost use Rattle.ocsf_lists.specs.ByName.{IsByName, put_by_name};
 ghost use Rattle.ocsf_kind.specs.Kinds.{kind_of};
 ghost use Rattle.ocsf_bundle.specs.Listing.{in_byte_order};
 ghost use Rattle.ocsf_rules.specs.MergedDictionary.{base_types};

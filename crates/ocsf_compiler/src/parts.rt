@@ -1,6 +1,6 @@
 // What a schema is made of besides its items.
 ghost use Rattle.std.specs.Prelude.{◌≡◌, IfOk, All};
-ghost use Rattle.ocsf_tree.specs.ByName.{IsByName};
+ghost use Rattle.ocsf_lists.specs.ByName.{IsByName};
 ghost use Rattle.ocsf_tree.specs.Valid.{IsValid};
 ghost use Rattle.ocsf_raw.specs.Ordered.{IsTypeValid};
 ghost use Rattle.ocsf_rules.specs.Compilation.{compilation};

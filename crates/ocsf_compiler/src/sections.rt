@@ -1,7 +1,7 @@
 // The categories, the extensions and the profiles, as they are printed.
 ghost use Rattle.std.specs.Prelude.{◌≡◌, ℕ, List, IfOk, map};
 ghost use Rattle.std.specs.Option.{IfSome};
-ghost use Rattle.ocsf_tree.specs.ByName.{IsByName};
+ghost use Rattle.ocsf_lists.specs.ByName.{IsByName};
 ghost use Rattle.ocsf_tree.specs.Valid.{IsValid};
 ghost use Rattle.ocsf_tree.specs.declared.tree.Tree.TheVariants as tree;
 ghost use Rattle.ocsf_bundle.specs.Shown.{shown};

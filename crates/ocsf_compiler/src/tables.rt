@@ -1,7 +1,7 @@
 // The merged dictionaries, as they are printed.
 ghost use Rattle.std.specs.Prelude.{◌≡◌, ◌<◌, ◌^◌, List, IfOk, All, map, unwrap_or, false};
 ghost use Rattle.std.specs.Option.{option_map, IfSome};
-ghost use Rattle.ocsf_tree.specs.ByName.{IsByName};
+ghost use Rattle.ocsf_lists.specs.ByName.{IsByName};
 ghost use Rattle.ocsf_tree.specs.Valid.{IsValid};
 ghost use Rattle.ocsf_tree.specs.declared.tree.Tree.TheVariants as tree;
 ghost use Rattle.ocsf_raw.specs.Ordered.{IsByKey, IsTypeValid};

@@ -94,7 +94,7 @@ fn sorted_paths<R: Files + AllocGlobal + Clone + Drop>(
 {
     let mut paths = unsorted_paths(rt, base)?;
     paths.sort_unstable();
-    Ok(Seq::from(paths))
+    Ok(Seq::from_vec(paths))
 }
 
 /// The first bytes that are left, at most so many.

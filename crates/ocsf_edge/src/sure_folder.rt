@@ -98,7 +98,7 @@ impl Folder for SureFolder {
         let alloc = self.files.allocator();
         let mut paths = unsorted_paths(alloc, base.as_bytes(), self.files.as_slice())?;
         paths.sort_unstable();
-        Ok(Seq::from(paths))
+        Ok(Seq::from_vec(paths))
     }
 
     fn read_file(&mut self, base: &str, path: &[u8], most: usize) -> Result<Bytes, Fail> {

@@ -10,11 +10,11 @@ use Rattle.std.proofs.lemmas.List.Elements.{All-contains, recursion_from_All}
 use Rattle.ocsf_tree.specs.declared.tree.Tree.{Tree, out-Tree}
 use Rattle.ocsf_tree.specs.declared.tree.Tree.TheOpen.{Tree-F}
 use Rattle.ocsf_tree.specs.declared.tree.Member.{Member}
-use Rattle.ocsf_tree.specs.ByName.{at_name}
+use Rattle.ocsf_lists.specs.ByName.{at_name}
 use Rattle.ocsf_tree.specs.declared.place.Step.{Step}
 use Rattle.ocsf_tree.specs.declared.place.Step.TheVariants.{At, Name}
 use Rattle.ocsf_tree.specs.declared.attribute.Requirement.TheVariants.{Required}
-use Rattle.ocsf_tree.specs.Among.{is_among}
+use Rattle.ocsf_lists.specs.Among.{is_among}
 use Rattle.ocsf_tree.specs.Lookup.{members_of}
 use Rattle.ocsf_event_rules.specs.EventLaws.{AllowedIsFaultless}
 use Rattle.ocsf_schema.specs.declared.records.Attr.{Attr}

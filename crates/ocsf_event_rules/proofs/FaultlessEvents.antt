@@ -33,7 +33,7 @@ use Rattle.ocsf_schema.specs.declared.records.Limit.{Limit}
 use Rattle.ocsf_schema.specs.declared.records.Target.{Target}
 use Rattle.ocsf_schema.specs.declared.records.Target.TheVariants as target
 use Rattle.ocsf_schema.specs.declared.parts.SchemaParts.{SchemaParts}
-use Rattle.ocsf_tree.specs.Among.{is_among}
+use Rattle.ocsf_lists.specs.Among.{is_among}
 use Rattle.ocsf_event_rules.specs.Profiles.{as_list, as_text, profile_list, is_in_force, is_profile, named_profiles}
 use Rattle.ocsf_event_rules.specs.EventClass.{as_object, is_null, unless_null, value_of, item_named, kind_named}
 use Rattle.ocsf_event_rules.specs.EventClass.{attribute_named, class_of, class_of_event, whole_of, class_numbered}

@@ -14,7 +14,7 @@ use Rattle.ocsf_schema.specs.declared.records.Item.{Item}
 use Rattle.ocsf_schema.specs.declared.records.Kind.{Kind}
 use Rattle.ocsf_schema.specs.declared.records.Limit.{Limit}
 use Rattle.ocsf_schema.specs.declared.parts.SchemaParts.{SchemaParts}
-use Rattle.ocsf_tree.specs.Among.{is_among}
+use Rattle.ocsf_lists.specs.Among.{is_among}
 use Rattle.ocsf_kind.specs.Accepted.{FitsBase, Meets}
 use Rattle.ocsf_kind.specs.declared.accepted.Which.TheVariants.{MaxLen, Range, Values}
 use Rattle.ocsf_event_rules.specs.Matches.{is_found}

@@ -6,7 +6,7 @@ use Rattle.ocsf_tree.specs.declared.tree.Tree.{Tree, out-Tree}
 use Rattle.ocsf_tree.specs.declared.tree.Tree.TheOpen.{Tree-F}
 use Rattle.ocsf_tree.specs.declared.tree.Member.{Member}
 use Rattle.ocsf_tree.specs.declared.key.Side.TheVariants.{Object}
-use Rattle.ocsf_tree.specs.ByName.{at_name}
+use Rattle.ocsf_lists.specs.ByName.{at_name}
 use Rattle.ocsf_tree.specs.Key.{key_text}
 use Rattle.ocsf_tree.specs.Lookup as tree
 use Rattle.ocsf_tree.specs.Lookup.{members_of, member_in}

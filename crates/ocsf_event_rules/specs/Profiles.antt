@@ -5,7 +5,7 @@ use Rattle.ocsf_tree.specs.declared.tree.Tree.{Tree, out-Tree}
 use Rattle.ocsf_tree.specs.Lookup.{text_of, items_of, member_at}
 use Rattle.ocsf_schema.specs.declared.records.Attr.{Attr}
 use Rattle.ocsf_schema.specs.declared.parts.SchemaParts.{SchemaParts}
-use Rattle.ocsf_tree.specs.Among.{is_among}
+use Rattle.ocsf_lists.specs.Among.{is_among}
 
 abbrev pub as_list : Tree → Option (List Tree)
 as_list value = items_of (out-Tree value)

@@ -6,8 +6,8 @@ use Rattle.std.specs.Str.{bytes_eq}
 use Rattle.std.specs.FinMap.Entries.{below_all}
 use Rattle.ocsf_tree.specs.declared.key.Key.{Key}
 use Rattle.ocsf_tree.specs.declared.attribute.EnumMember.{EnumMember}
-use Rattle.ocsf_tree.specs.ByName.{text_cmp, named, is_by_name, IsByName}
-use Rattle.ocsf_tree.proofs.FirstOfEach.{IsByName-first_of_each}
+use Rattle.ocsf_lists.specs.ByName.{text_cmp, named, is_by_name, IsByName}
+use Rattle.ocsf_lists.proofs.FirstOfEach.{IsByName-first_of_each}
 use Rattle.ocsf_schema.specs.declared.records.Attr.{Attr}
 use Rattle.ocsf_merge.specs.declared.spoken.Spoken.{Spoken}
 use Rattle.ocsf_merge.specs.Table.{table_of}

@@ -5,7 +5,7 @@ use Rattle.std.proofs.lemmas.List.{reverse-append}
 use Rattle.ocsf_bundle.specs.Looks.{DictOf}
 use Rattle.ocsf_rules.specs.declared.said.DictSaid.{DictSaid}
 use Rattle.ocsf_rules.specs.Attribute.{dict_said, type_said_in}
-use Rattle.ocsf_tree.specs.Given.{first_given}
+use Rattle.ocsf_lists.specs.Given.{first_given}
 use Rattle.ocsf_item.specs.Dictionary.{dict_over}
 use Rattle.ocsf_walk.proofs.Lists.{take_none, take_some, take_all}
 

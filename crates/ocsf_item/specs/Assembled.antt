@@ -2,7 +2,7 @@
 use Rattle.std.specs.Prelude.{ℕ, List, Option}
 use Rattle.std.specs.Option.{option_map}
 use Rattle.ocsf_tree.specs.declared.key.Key.{Key}
-use Rattle.ocsf_tree.specs.FirstOfEach.{first_of_each}
+use Rattle.ocsf_lists.specs.FirstOfEach.{first_of_each}
 use Rattle.ocsf_schema.specs.declared.records.Attr.{Attr}
 use Rattle.ocsf_schema.specs.declared.records.Item.{Item}
 use Rattle.ocsf_rules.specs.declared.category.Category.{Category}

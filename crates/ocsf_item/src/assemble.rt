@@ -1,7 +1,7 @@
 // An item from its parts.
 ghost use Rattle.std.specs.Prelude.{◌≡◌, [], IfOk, IfSome, unwrap_or};
 ghost use Rattle.std.specs.Option.{option_map};
-ghost use Rattle.ocsf_tree.specs.FirstOfEach.{first_of_each};
+ghost use Rattle.ocsf_lists.specs.FirstOfEach.{first_of_each};
 ghost use Rattle.ocsf_rules.specs.declared.category.Category.{Category};
 ghost use Rattle.ocsf_item.specs.Assembled.{item_from};
 ghost use Rattle.ocsf_walk.specs.Ranges.{IsCategoryInRange};

@@ -1,6 +1,6 @@
 // The item that a full key stands for, built with the cells that it reads.
 ghost use Rattle.std.specs.Prelude.{◌≡◌, ◌+◌, None, IfOk, IfErr, All};
-ghost use Rattle.ocsf_tree.specs.ByName.{IsByName};
+ghost use Rattle.ocsf_lists.specs.ByName.{IsByName};
 ghost use Rattle.ocsf_rules.specs.Compiled.{item};
 ghost use Rattle.ocsf_rules.specs.ItemFaults.{item_fault};
 ghost use Rattle.ocsf_rules.specs.Reads.{reads};

@@ -1,6 +1,6 @@
 // What a class has besides: its category, its numbers and its computed enumerations.
 ghost use Rattle.std.specs.Prelude.{◌≡◌, ◌++◌, ◌≤◌, [], None, IfOk, IfSome, OnOk};
-ghost use Rattle.ocsf_tree.specs.Given.{last_given};
+ghost use Rattle.ocsf_lists.specs.Given.{last_given};
 ghost use Rattle.ocsf_tree.specs.LeastFault.{least_from};
 ghost use Rattle.ocsf_merge.specs.Table.{table_of};
 ghost use Rattle.ocsf_rules.specs.Names.{ext_of};

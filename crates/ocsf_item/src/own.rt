@@ -1,7 +1,7 @@
 // What an item has of its own: of its file and the patches of it.
 ghost use Rattle.std.specs.Prelude.{◌≡◌, ◌≤◌, [], IfOk, IfSome, None, false, unwrap_or, is_none, codes, if◌then◌else◌};
 ghost use Rattle.std.specs.Option.{option_map_or, option_and_then, option_copied};
-ghost use Rattle.ocsf_tree.specs.ByName.{IsByName, at_name};
+ghost use Rattle.ocsf_lists.specs.ByName.{IsByName, at_name};
 ghost use Rattle.ocsf_rules.specs.Chain.{own_file};
 ghost use Rattle.ocsf_rules.specs.Compiled.{
   caption,

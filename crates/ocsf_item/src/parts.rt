@@ -1,7 +1,7 @@
 // The parts of an item, and what is wrong with them.
 ghost use Rattle.std.specs.Prelude.{◌≡◌, ◌++◌, [], None, IfOk, OnOk, IfSome, map, flat_map};
 ghost use Rattle.ocsf_tree.specs.LeastFault.{least_fault, least_from};
-ghost use Rattle.ocsf_tree.specs.ByName.{IsByName};
+ghost use Rattle.ocsf_lists.specs.ByName.{IsByName};
 ghost use Rattle.ocsf_merge.specs.Table.{table_of};
 ghost use Rattle.ocsf_rules.specs.Names.{ext_of};
 ghost use Rattle.ocsf_rules.specs.Chain.{speakers, layers};

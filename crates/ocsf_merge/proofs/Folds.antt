@@ -7,14 +7,14 @@ use Rattle.std.specs.Ordering.{is_eq}
 use Rattle.std.proofs.lemmas.List.Elements.{filter_map-append}
 use Rattle.std.proofs.lemmas.List.{reverse-append}
 use Rattle.ocsf_tree.specs.declared.attribute.EnumMember.{EnumMember}
-use Rattle.ocsf_tree.specs.ByName.{text_cmp, at_name}
-use Rattle.ocsf_tree.proofs.FirstOfEach.{same_lists, name-at_name}
+use Rattle.ocsf_lists.specs.ByName.{text_cmp, at_name}
+use Rattle.ocsf_lists.proofs.FirstOfEach.{same_lists, name-at_name}
 use Rattle.ocsf_raw.specs.declared.attribute.RawAttr.{RawAttr}
 use Rattle.ocsf_raw.specs.Ordered.{IsByKey, AreEntriesOrdered}
 use Rattle.ocsf_merge.specs.declared.spoken.Spoken.{Spoken}
 use Rattle.ocsf_merge.specs.Layers.{Layer, GivenMark, no_mark, given, entry_said, entry_of, entries_for}
 use Rattle.ocsf_merge.specs.Table.{until_removal, counting, type_said, is_said, mark_said, spoken_by, present, spoken, table_of}
-use Rattle.ocsf_tree.specs.Given.{first_given}
+use Rattle.ocsf_lists.specs.Given.{first_given}
 use Rattle.ocsf_merge.specs.Fold.{over, nothing, after_entry, after_layer}
 use Rattle.ocsf_merge.proofs.MergedLists.{merged-joins, joined, merged-first_of_each}
 use Rattle.ocsf_merge.proofs.TablesByName.{entry_name, row_name, IsByName-table_of, at_name-table_of}

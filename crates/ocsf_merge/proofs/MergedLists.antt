@@ -8,10 +8,10 @@ use Rattle.std.specs.Ordering.{is_lt, is_eq, ordering_reverse}
 use Rattle.std.specs.Cmp.Lexicographic.{nat_list_cmp_total}
 use Rattle.std.specs.FinMap.Entries.{by_order, below_all}
 use Rattle.std.proofs.lemmas.Bool.{and_parts}
-use Rattle.ocsf_tree.specs.ByName.{text_cmp, named, at_name, is_by_name, IsByName}
-use Rattle.ocsf_tree.specs.FirstOfEach.{first_of_each}
-use Rattle.ocsf_tree.proofs.NameLists.{same_text, head_below, tail_by_name}
-use Rattle.ocsf_tree.proofs.FirstOfEach.{same_lists, at_name-append, IsByName-first_of_each, at_name-first_of_each}
+use Rattle.ocsf_lists.specs.ByName.{text_cmp, named, at_name, is_by_name, IsByName}
+use Rattle.ocsf_lists.specs.FirstOfEach.{first_of_each}
+use Rattle.ocsf_lists.proofs.NameLists.{same_text, head_below, tail_by_name}
+use Rattle.ocsf_lists.proofs.FirstOfEach.{same_lists, at_name-append, IsByName-first_of_each, at_name-first_of_each}
 use Rattle.ocsf_merge.specs.Merged.{with_entry, merged, newer}
 
 both : (a b : Bool) → a ≡ true → b ≡ true → (a && b) ≡ true

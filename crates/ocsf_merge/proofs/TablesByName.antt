@@ -4,8 +4,8 @@ use Rattle.std.specs.Prelude.{flat_map}
 use Rattle.std.specs.List.{cons_option, filter_map}
 use Rattle.std.specs.Option.{option_or, option_map}
 use Rattle.std.specs.Ordering.{is_eq}
-use Rattle.ocsf_tree.specs.ByName.{text_cmp, at_name, IsByName}
-use Rattle.ocsf_tree.proofs.FirstOfEach.{name-at_name, at_name-append, IsByName-first_of_each, at_name-first_of_each}
+use Rattle.ocsf_lists.specs.ByName.{text_cmp, at_name, IsByName}
+use Rattle.ocsf_lists.proofs.FirstOfEach.{name-at_name, at_name-append, IsByName-first_of_each, at_name-first_of_each}
 use Rattle.ocsf_raw.specs.declared.attribute.RawAttr.{RawAttr}
 use Rattle.ocsf_merge.specs.declared.spoken.Spoken.{Spoken}
 use Rattle.ocsf_merge.specs.Layers.{Layer, entry_said, entries_for}

@@ -1,6 +1,6 @@
 -- What holds of the table of every list of layers.
 use Rattle.std.specs.Prelude.{◌≡◌, ℕ, List}
-use Rattle.ocsf_tree.specs.ByName.{IsByName, at_name}
+use Rattle.ocsf_lists.specs.ByName.{IsByName, at_name}
 use Rattle.ocsf_merge.specs.Layers.{Layer}
 use Rattle.ocsf_merge.specs.Table.{spoken, table_of}
 

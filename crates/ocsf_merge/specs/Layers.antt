@@ -3,7 +3,7 @@ use Rattle.std.specs.Prelude.{ℕ, Bool, true, false, List, [], Option, Some, No
 use Rattle.std.specs.Option.{option_or, option_map, option_and_then, option_copied}
 use Rattle.std.specs.Borrow.{Bor}
 use Rattle.std.specs.List.{filter_map}
-use Rattle.ocsf_tree.specs.ByName.{at_name}
+use Rattle.ocsf_lists.specs.ByName.{at_name}
 use Rattle.ocsf_raw.specs.declared.attribute.RawAttr.{RawAttr}
 use Rattle.ocsf_raw.specs.declared.attribute.Mark.{Mark}
 use Rattle.ocsf_raw.specs.declared.attribute.Mark.TheVariants.{Unsaid, Cleared, Named}

@@ -2,7 +2,7 @@
 use Rattle.std.specs.Prelude.{ℕ, List, [], ◌∷◌, Option, Some, None}
 use Rattle.std.specs.List.{cons_option}
 use Rattle.std.specs.FinMap.Entries.{by_order}
-use Rattle.ocsf_tree.specs.ByName.{text_cmp}
+use Rattle.ocsf_lists.specs.ByName.{text_cmp}
 
 module _ {E R : Type 0} (entry_name : E → List ℕ) (row_name : R → List ℕ) (join : E → Option R → Option R) where
   -- the rows with one entry more

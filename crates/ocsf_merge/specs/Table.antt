@@ -4,8 +4,8 @@ use Rattle.std.specs.Prelude.{unwrap_or, if◌then◌else◌}
 use Rattle.std.specs.Option.{option_or, option_map, option_map_or}
 use Rattle.std.specs.List.{filter_map}
 use Rattle.ocsf_tree.specs.declared.attribute.EnumMember.{EnumMember}
-use Rattle.ocsf_tree.specs.FirstOfEach.{first_of_each}
-use Rattle.ocsf_tree.specs.Given.{first_given}
+use Rattle.ocsf_lists.specs.FirstOfEach.{first_of_each}
+use Rattle.ocsf_lists.specs.Given.{first_given}
 use Rattle.ocsf_raw.specs.declared.attribute.Mark.{Mark}
 use Rattle.ocsf_raw.specs.declared.attribute.Mark.TheVariants.{Unsaid}
 use Rattle.ocsf_merge.specs.declared.spoken.Spoken.{Spoken}

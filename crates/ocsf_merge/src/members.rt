@@ -1,7 +1,7 @@
 // The members of an enumeration, one layer over another.
 ghost use Rattle.std.specs.Prelude.{◌≡◌, ◌++◌, IfOk, OnOk};
-ghost use Rattle.ocsf_tree.specs.ByName.{IsByName};
-ghost use Rattle.ocsf_tree.specs.FirstOfEach.{first_of_each};
+ghost use Rattle.ocsf_lists.specs.ByName.{IsByName};
+ghost use Rattle.ocsf_lists.specs.FirstOfEach.{first_of_each};
 ghost use Rattle.ocsf_merge.specs.Fold.{merged_members};
 
 use ocsf_tree::{EnumMember, Row, TryClone};

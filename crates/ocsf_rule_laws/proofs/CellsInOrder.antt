@@ -10,8 +10,8 @@ use Rattle.ocsf_tree.specs.declared.key.Side.{Side}
 use Rattle.ocsf_tree.specs.declared.key.Side.TheVariants.{Class, Object}
 use Rattle.ocsf_tree.specs.declared.key.Key.{Key}
 use Rattle.ocsf_tree.specs.Key.{key_text, side_text}
-use Rattle.ocsf_tree.specs.ByName.{text_cmp}
-use Rattle.ocsf_tree.proofs.NameLists.{same_text}
+use Rattle.ocsf_lists.specs.ByName.{text_cmp}
+use Rattle.ocsf_lists.proofs.NameLists.{same_text}
 use Rattle.ocsf_bundle.specs.declared.cells.Cell.{Cell}
 use Rattle.ocsf_bundle.specs.declared.cells.Cell.TheVariants as cell
 use Rattle.ocsf_bundle.specs.CellOrder.{cell_cmp}

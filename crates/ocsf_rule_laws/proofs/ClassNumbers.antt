@@ -8,14 +8,14 @@ use Rattle.std.specs.Ordering.{is_eq, is_lt}
 use Rattle.std.specs.FinMap.Entries.{below_all}
 use Rattle.std.proofs.lemmas.Bool.{and_parts, eq-eqb}
 use Rattle.std.proofs.lemmas.List.Elements.{All-map, All-get_or, All-from_get_or}
-use Rattle.ocsf_tree.specs.ByName.{text_cmp, named, at_name, IsByName}
+use Rattle.ocsf_lists.specs.ByName.{text_cmp, named, at_name, IsByName}
 use Rattle.ocsf_tree.specs.Key.{key_text, same_side}
 use Rattle.ocsf_tree.specs.declared.key.Key.{Key}
 use Rattle.ocsf_tree.specs.declared.key.Side.{Side}
 use Rattle.ocsf_tree.specs.declared.key.Side.TheVariants.{Class, Object}
 use Rattle.ocsf_tree.specs.declared.fault.Fault.{Fault}
 use Rattle.ocsf_tree.specs.declared.fault.Code.TheVariants as code
-use Rattle.ocsf_tree.proofs.NameLists.{text_cmp-same, head_below, tail_by_name, at_name-at}
+use Rattle.ocsf_lists.proofs.NameLists.{text_cmp-same, head_below, tail_by_name, at_name-at}
 use Rattle.ocsf_schema.specs.Lookups.{class_number as number_of, is_number, class_at}
 use Rattle.ocsf_schema.specs.declared.records.Item.{Item}
 use Rattle.ocsf_bundle.specs.Active.{active_files}

@@ -11,12 +11,12 @@ use Rattle.std.specs.declared.cmp.Ordering.TheVariants.{Less, Equal, Greater}
 use Rattle.std.specs.FinMap.Entries.{by_order}
 use Rattle.std.proofs.lemmas.Bool.{false≢true}
 use Rattle.std.proofs.lemmas.List.Elements.{All-nil, All-cons, All-head, All-tail, All-append, All-map, All-weaker}
-use Rattle.ocsf_tree.specs.ByName.{text_cmp, at_name, put_by_name}
-use Rattle.ocsf_tree.specs.FirstOfEach.{first_of_each}
+use Rattle.ocsf_lists.specs.ByName.{text_cmp, at_name, put_by_name}
+use Rattle.ocsf_lists.specs.FirstOfEach.{first_of_each}
 use Rattle.ocsf_tree.specs.Key.{key_text}
 use Rattle.ocsf_tree.specs.declared.key.Key.{Key}
 use Rattle.ocsf_tree.specs.declared.key.Side.TheVariants.{Object}
-use Rattle.ocsf_tree.proofs.FirstOfEach.{at_name-append, at_name-first_of_each}
+use Rattle.ocsf_lists.proofs.FirstOfEach.{at_name-append, at_name-first_of_each}
 use Rattle.ocsf_raw.specs.declared.dictionary.TypeEntry.{TypeEntry}
 use Rattle.ocsf_schema.specs.Bases.{base_of}
 use Rattle.ocsf_schema.specs.declared.parts.SchemaParts.{SchemaParts}

@@ -27,10 +27,10 @@ use Rattle.ocsf_rules.specs.Compiled.{uid, written_category, category, at_least_
 use Rattle.ocsf_rules.specs.ItemFaults.{fault, cycle_in, cycle_fault, parent_fault, limit_fault, chain_faults, unknown_profile, mark_fault, entry_fault, layer_faults, unknown_include, include_faults, listed_faults, speaker_faults, layers_faults, type_text, attribute_fault, category_fault, constraint_fault, is_small_decimal, activity_fault, activity_faults, size_fault, own_faults, item_fault}
 use Rattle.ocsf_rules.specs.SchemaFaults.{schema_faults}
 use Rattle.ocsf_rule_laws.specs.VerdictLaws.{LeastIsOfItems}
-use Rattle.ocsf_tree.specs.Least.{lesser}
+use Rattle.ocsf_lists.specs.Least.{lesser}
 use Rattle.ocsf_tree.specs.LeastFault.{rank, comes_before, least_fault}
-use Rattle.ocsf_tree.proofs.Leasts as least
-use Rattle.ocsf_tree.proofs.Leasts.{least-append, least-cons, lesser-groups}
+use Rattle.ocsf_lists.proofs.Leasts as least
+use Rattle.ocsf_lists.proofs.Leasts.{least-append, least-cons, lesser-groups}
 use Rattle.ocsf_tree.proofs.LeastFaults.{faults_rank, parted_by}
 
 abbrev join : Option Fault → Option Fault → Option Fault

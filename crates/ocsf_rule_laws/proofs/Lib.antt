@@ -2,16 +2,12 @@ pub mod SomeLeast
 pub mod SomeEdit
 pub mod SomeAfter
 pub mod SomeVerdict
-pub mod Examples
 pub mod Agreement
 pub mod SameChain
 pub mod SameLayers
 pub mod SameAttributes
 pub mod CellsInOrder
 pub mod SameItem
-pub mod SampleFiles
-pub mod Sample
-pub mod CompilationExamples
 pub mod LeastOfItems
 pub mod OneVerdict
 pub mod TypesAgree

@@ -7,10 +7,10 @@ use Rattle.std.specs.Ordering.{is_eq, is_lt}
 use Rattle.ocsf_tree.specs.declared.key.Key.{Key}
 use Rattle.ocsf_tree.specs.declared.fault.Fault.{Fault}
 use Rattle.ocsf_tree.specs.declared.fault.Code.TheVariants as code
-use Rattle.ocsf_tree.specs.ByName.{at_name, text_cmp}
+use Rattle.ocsf_lists.specs.ByName.{at_name, text_cmp}
 use Rattle.ocsf_tree.specs.Key.{key_text}
 use Rattle.ocsf_tree.specs.LeastFault.{least_fault}
-use Rattle.ocsf_tree.specs.FirstOfEach.{first_of_each}
+use Rattle.ocsf_lists.specs.FirstOfEach.{first_of_each}
 use Rattle.ocsf_bundle.specs.Looks.{Looks, look, is_there}
 use Rattle.ocsf_bundle.specs.declared.cells.Cell.{Cell}
 use Rattle.ocsf_bundle.specs.declared.cells.Cell.TheVariants as cell
@@ -24,7 +24,7 @@ use Rattle.ocsf_rules.specs.Chain.{own_file, written_parent, parent, keys_up, ch
 use Rattle.ocsf_rules.specs.Attribute.{attr_of}
 use Rattle.ocsf_rules.specs.Compiled.{is_class, uid, is_hidden, starts_low, caption, description, at_least_one, just_one, written_in, written_category, category_of, category_at, category_named, category, category_number, ext_uid, class_number, row_of, enumeration, activities, numbered, computed, profile_keys, item}
 use Rattle.ocsf_rules.specs.ItemFaults.{fault, same_key, cycle_in, lesser_key, least_key, cycle_fault, parent_fault, limit_fault, faults_along, chain_faults, attribute_fault, category_fault, constraint_fault, activity_fault, size_fault, own_faults, item_fault}
-use Rattle.ocsf_tree.specs.Given.{last_given}
+use Rattle.ocsf_lists.specs.Given.{last_given}
 use Rattle.ocsf_rules.specs.InOrder.{in_order}
 use Rattle.ocsf_rules.specs.Reads.{ext_reads, key_reads, speaker_reads, attribute_reads, category_reads, cells_read, reads}
 use Rattle.ocsf_rule_laws.proofs.Agreement.{left, right, each, weaker, all_take, same_flat_map, same_map, same_categories, same_exts, same_from_found, same_tried}

@@ -19,7 +19,7 @@ use Rattle.ocsf_raw.specs.declared.wanted.Wanted.TheVariants.{Plain, Listed, Obj
 use Rattle.ocsf_raw.specs.declared.least_fault.Found.{Found}
 use Rattle.ocsf_raw.specs.Wanted.{fault_here, item_wanted, member_wanted, counts}
 use Rattle.ocsf_raw.specs.Shape.{Faults, IsLeast, is_given, names_needed, read_part, fault_at}
-use Rattle.ocsf_tree.specs.Least.{lesser}
+use Rattle.ocsf_lists.specs.Least.{lesser}
 use Rattle.ocsf_raw.specs.Least.{stands_before, found_below, fault_of, fault_of_member, faults_of_items, faults_of_members, faults_missing}
 use Rattle.ocsf_raw.proofs.Leasts.{least_alike, none_least, here_least, least_of_two}
 use Rattle.ocsf_raw.proofs.LeastTrees.{list_least, object_least, null_least, flag_least, whole_least, words_least}

@@ -5,9 +5,9 @@ use Rattle.std.specs.Prelude.{flat_map, filter_map}
 use Rattle.std.specs.Option.{option_map, option_and_then, option_or}
 use Rattle.std.specs.List.{cons_option}
 use Rattle.std.specs.Ordering.{is_eq}
-use Rattle.ocsf_tree.specs.ByName.{text_cmp, at_name}
+use Rattle.ocsf_lists.specs.ByName.{text_cmp, at_name}
 use Rattle.ocsf_tree.specs.declared.fault.Code.TheVariants as code
-use Rattle.ocsf_tree.proofs.FirstOfEach.{name-at_name, at_name-append, at_name-first_of_each}
+use Rattle.ocsf_lists.proofs.FirstOfEach.{name-at_name, at_name-append, at_name-first_of_each}
 use Rattle.ocsf_raw.specs.declared.dictionary.TypeEntry.{TypeEntry}
 use Rattle.ocsf_schema.specs.Bases.{base_of}
 use Rattle.ocsf_schema.specs.declared.records.Base.{Base}
@@ -26,7 +26,7 @@ use Rattle.ocsf_bundle.specs.FilesLook.{looks, types_said}
 use Rattle.ocsf_bundle.specs.FilesLook.{kind_of as entry_in}
 use Rattle.ocsf_bundle.specs.Listing.{listing, type_names}
 use Rattle.ocsf_bundle.specs.Looks.{Looks, is_there}
-use Rattle.ocsf_tree.specs.Given.{last_given}
+use Rattle.ocsf_lists.specs.Given.{last_given}
 use Rattle.ocsf_bundle.specs.Stored.{Stored}
 use Rattle.ocsf_bundle.specs.declared.stored.ActiveFile.{ActiveFile}
 use Rattle.ocsf_bundle.proofs.Listed.{found_layers}

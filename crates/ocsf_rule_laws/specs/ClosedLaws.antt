@@ -2,7 +2,7 @@
 -- each of all bundles.
 use Rattle.std.specs.Prelude.{◌≡◌, ◌≢◌, ℕ, true, List, [], map, Option, Some, None, Result, Ok, Err, All, IfSome}
 use Rattle.std.specs.Prelude.{is_some, ⊤}
-use Rattle.ocsf_tree.specs.ByName.{at_name}
+use Rattle.ocsf_lists.specs.ByName.{at_name}
 use Rattle.ocsf_tree.specs.declared.fault.Fault.{Fault}
 use Rattle.ocsf_tree.specs.declared.fault.Code.TheVariants as code
 use Rattle.ocsf_tree.specs.declared.key.Side.TheVariants.{Object}

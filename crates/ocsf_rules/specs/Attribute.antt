@@ -7,8 +7,8 @@ use Rattle.ocsf_tree.specs.declared.key.Key.{Key}
 use Rattle.ocsf_tree.specs.declared.key.Side.TheVariants.{Object}
 use Rattle.ocsf_tree.specs.declared.attribute.EnumMember.{EnumMember}
 use Rattle.ocsf_tree.specs.declared.attribute.Requirement.TheVariants.{Optional}
-use Rattle.ocsf_tree.specs.FirstOfEach.{first_of_each}
-use Rattle.ocsf_tree.specs.Given.{last_given}
+use Rattle.ocsf_lists.specs.FirstOfEach.{first_of_each}
+use Rattle.ocsf_lists.specs.Given.{last_given}
 use Rattle.ocsf_raw.specs.declared.attribute.Mark.{Mark}
 use Rattle.ocsf_raw.specs.declared.attribute.Mark.TheVariants.{Named}
 use Rattle.ocsf_schema.specs.declared.records.Attr.{Attr}

@@ -9,13 +9,13 @@ use Rattle.ocsf_tree.specs.declared.key.Side.{Side}
 use Rattle.ocsf_tree.specs.declared.key.Side.TheVariants.{Class, Object}
 use Rattle.ocsf_tree.specs.declared.key.Key.{Key}
 use Rattle.ocsf_tree.specs.declared.attribute.EnumMember.{EnumMember}
-use Rattle.ocsf_tree.specs.ByName.{at_name}
-use Rattle.ocsf_tree.specs.FirstOfEach.{first_of_each}
+use Rattle.ocsf_lists.specs.ByName.{at_name}
+use Rattle.ocsf_lists.specs.FirstOfEach.{first_of_each}
 use Rattle.ocsf_schema.specs.declared.records.Item.{Item}
 use Rattle.ocsf_bundle.specs.Looks.{Looks, CategoryOf, BuiltIn, Listed}
 use Rattle.ocsf_bundle.specs.declared.cells.Cell.{Cell}
 use Rattle.ocsf_bundle.specs.declared.cells.Cell.TheVariants as cell
-use Rattle.ocsf_tree.specs.Given.{last_given}
+use Rattle.ocsf_lists.specs.Given.{last_given}
 use Rattle.ocsf_merge.specs.declared.spoken.Spoken.{Spoken}
 use Rattle.ocsf_merge.specs.Layers.{Layer}
 use Rattle.ocsf_merge.specs.Table.{table_of}

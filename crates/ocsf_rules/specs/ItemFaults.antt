@@ -10,7 +10,7 @@ use Rattle.ocsf_tree.specs.declared.key.Key.{Key}
 use Rattle.ocsf_tree.specs.declared.fault.Fault.{Fault}
 use Rattle.ocsf_tree.specs.declared.fault.Code.TheVariants as code
 use Rattle.ocsf_tree.specs.declared.attribute.EnumMember.{EnumMember}
-use Rattle.ocsf_tree.specs.ByName.{text_cmp, at_name}
+use Rattle.ocsf_lists.specs.ByName.{text_cmp, at_name}
 use Rattle.ocsf_schema.specs.declared.records.Target.{Target}
 use Rattle.ocsf_tree.specs.Key.{key_text, same_side}
 pub use Rattle.ocsf_tree.specs.Fault.{fault}

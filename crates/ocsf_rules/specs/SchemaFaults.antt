@@ -4,7 +4,7 @@ use Rattle.std.specs.Prelude.{codes, decimal, if◌then◌else◌}
 use Rattle.std.specs.Option.{option_map_or}
 use Rattle.std.specs.List.{list_any}
 use Rattle.std.specs.Ordering.{is_lt}
-use Rattle.ocsf_tree.specs.ByName.{text_cmp}
+use Rattle.ocsf_lists.specs.ByName.{text_cmp}
 use Rattle.ocsf_tree.specs.Key.{key_text}
 use Rattle.ocsf_tree.specs.declared.key.Key.{Key}
 use Rattle.ocsf_tree.specs.declared.fault.Fault.{Fault}

@@ -4,10 +4,10 @@ use Rattle.std.specs.declared.cmp.Ordering.{Ordering}
 use Rattle.std.specs.Ordering.{is_lt, match_ordering}
 use Rattle.std.specs.FinMap.Entries.{below_all}
 use Rattle.std.proofs.lemmas.Bool.{lt-ltb}
-use Rattle.ocsf_tree.specs.ByName.{text_cmp, named, IsByName}
+use Rattle.ocsf_lists.specs.ByName.{text_cmp, named, IsByName}
 use Rattle.ocsf_tree.specs.Data.{data_of, members_data}
 use Rattle.ocsf_tree.specs.Valid.{IsValid, IsValidList, IsValidMembers, is_valid, is_before, members_valid}
-use Rattle.ocsf_tree.proofs.NameLists.{head_below, tail_by_name, below_at}
+use Rattle.ocsf_lists.proofs.NameLists.{head_below, tail_by_name, below_at}
 use Rattle.ocsf_tree.proofs.Valid.{list_valid, object_valid, IsValidList-cons}
 use Rattle.ocsf_tree.specs.declared.tree.Tree.{Tree, the_lemmas}
 use Rattle.ocsf_tree.specs.declared.tree.Tree.TheVariants as tree

@@ -3,7 +3,7 @@ use Rattle.std.specs.Prelude.{ℕ, List, Bool, false, ◌&&◌, not, if◌then�
 use Rattle.std.specs.List.{find}
 use Rattle.ocsf_tree.specs.declared.key.Key.{Key}
 use Rattle.ocsf_tree.specs.declared.key.Side.TheVariants.{Class}
-use Rattle.ocsf_tree.specs.ByName.{IsByName, at_name}
+use Rattle.ocsf_lists.specs.ByName.{IsByName, at_name}
 use Rattle.ocsf_tree.specs.Key.{key_text, same_side}
 use Rattle.ocsf_schema.specs.declared.records.Item.{Item}
 

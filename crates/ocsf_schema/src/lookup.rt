@@ -5,7 +5,7 @@ ghost use Rattle.std.specs.declared.cmp.Ordering.TheVariants.{Less, Equal, Great
 ghost use Rattle.std.specs.BTreeMap.{get};
 ghost use Rattle.std.specs.Option.{option_copied, option_or};
 ghost use Rattle.std.specs.Ordering.{nat_cmp};
-ghost use Rattle.ocsf_tree.specs.ByName.{text_cmp};
+ghost use Rattle.ocsf_lists.specs.ByName.{text_cmp};
 ghost use Rattle.ocsf_tree.specs.Key.{key_text};
 ghost use Rattle.ocsf_schema.specs.Lookups.{IsByKey, item_at, class_number, class_at, IsInOrder};
 

@@ -1,6 +1,6 @@
 // An item with its printed fragment.
 ghost use Rattle.std.specs.Prelude.{◌≡◌, ◌+◌, ℕ, IfOk, All};
-ghost use Rattle.ocsf_tree.specs.ByName.{IsByName};
+ghost use Rattle.ocsf_lists.specs.ByName.{IsByName};
 ghost use Rattle.ocsf_schema.specs.Print.{fragment};
 
 use crate::fragment::fragment_of;

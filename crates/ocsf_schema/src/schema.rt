@@ -4,7 +4,7 @@ ghost use Rattle.std.specs.Io.KnownBytes.{Appends};
 ghost use Rattle.ocsf_edge.specs.Faults.{HasCause};
 ghost use Rattle.ocsf_edge.specs.Sink.{AppendsPrefix};
 ghost use Rattle.std.specs.Option.{option_copied};
-ghost use Rattle.ocsf_tree.specs.ByName.{IsByName, at_name};
+ghost use Rattle.ocsf_lists.specs.ByName.{IsByName, at_name};
 ghost use Rattle.ocsf_tree.specs.Lookup.{member_at};
 ghost use Rattle.ocsf_tree.specs.Valid.{IsValid};
 
@@ -50,7 +50,7 @@ impl Model for Schema {
     ghost use Rattle.std.specs.Prelude.{ℕ};
     ghost use Rattle.std.specs.BTreeMap.{get};
     ghost use Rattle.std.specs.Ordering.{nat_cmp};
-    ghost use Rattle.ocsf_tree.specs.ByName.{IsByName};
+    ghost use Rattle.ocsf_lists.specs.ByName.{IsByName};
     ghost use Rattle.ocsf_tree.specs.Valid.{IsValid};
     ghost use Rattle.ocsf_schema.specs.Count.{IsCount};
     ghost use Rattle.ocsf_schema.specs.Lookups.{IsByKey, class_at};

@@ -13,7 +13,7 @@ use std::test::Fail;
 use std::{fs, io};
 
 fn numbers(alloc: Global, values: &[u64]) -> Result<Seq<u64>, AllocError> {
-    Ok(Seq::from(values.to_vec(alloc)?))
+    Ok(Seq::from_vec(values.to_vec(alloc)?))
 }
 
 // A call moves so many bytes, or fails where the word is no number.

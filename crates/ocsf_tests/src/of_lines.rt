@@ -70,7 +70,7 @@ impl LineMachine for Echo {
 }
 
 fn numbers(alloc: Global, number: u64, count: usize) -> Result<Seq<u64>, AllocError> {
-    Ok(Seq::from(vec![in alloc; number; count]?))
+    Ok(Seq::from_vec(vec![in alloc; number; count]?))
 }
 
 // These bytes in pieces of this size; the call of this number fails.

@@ -12,7 +12,7 @@ use Rattle.ocsf_raw.specs.declared.file_shape.RawError.{RawError}
 use Rattle.ocsf_raw.specs.declared.file_shape.RawError.TheVariants as raw
 use Rattle.ocsf_raw.specs.Forms.{has_form}
 use Rattle.ocsf_raw.proofs.FilterMaps.{filter_map-kept, filter_map-passed}
-use Rattle.ocsf_tree.specs.ByName.{text_cmp, named, is_by_name, IsByName, put_by_name}
+use Rattle.ocsf_lists.specs.ByName.{text_cmp, named, is_by_name, IsByName, put_by_name}
 use Rattle.ocsf_bundle.specs.declared.stored.StoredFile.{StoredFile}
 use Rattle.ocsf_bundle.specs.Stored.{Stored, stored_path}
 use Rattle.ocsf_bundle.specs.Listing.{in_byte_order}

@@ -13,9 +13,9 @@ use Rattle.ocsf_tree.specs.declared.fault.Fault.{Fault}
 use Rattle.ocsf_schema.specs.declared.parts.SchemaParts.{SchemaParts}
 use Rattle.ocsf_tree.specs.declared.reader.TreeError.{TreeError}
 use Rattle.ocsf_tree.specs.declared.reader.TreeError.TheVariants.{NotJson, NumberNotWhole, Memory}
-use Rattle.ocsf_tree.specs.ByName.{text_cmp, at_name}
-use Rattle.ocsf_tree.proofs.FirstOfEach.{same_lists, IsByName-first_of_each, at_name-first_of_each}
-use Rattle.ocsf_tree.proofs.NameLists.{same_text}
+use Rattle.ocsf_lists.specs.ByName.{text_cmp, at_name}
+use Rattle.ocsf_lists.proofs.FirstOfEach.{same_lists, IsByName-first_of_each, at_name-first_of_each}
+use Rattle.ocsf_lists.proofs.NameLists.{same_text}
 use Rattle.ocsf_tree.proofs.Readings.{one_reading}
 use Rattle.ocsf_raw.specs.declared.files.RawFile.{RawFile}
 use Rattle.ocsf_raw.specs.declared.file_shape.RawError.{RawError}

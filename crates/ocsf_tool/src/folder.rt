@@ -2,7 +2,7 @@
 ghost use Rattle.std.specs.Prelude.{◌≡◌, ℕ, List, filter_map, map, IfOk, IfSome};
 ghost use Rattle.std.specs.Option.{option_copied};
 ghost use Rattle.ocsf_edge.specs.Folder.{body_at};
-ghost use Rattle.ocsf_tree.specs.ByName.{IsByName};
+ghost use Rattle.ocsf_lists.specs.ByName.{IsByName};
 ghost use Rattle.ocsf_raw.specs.Forms.{has_form};
 ghost use Rattle.ocsf_bundle.specs.Stored.{stored_path, IsStoredSound, AreFilesSound};
 ghost use Rattle.ocsf_bundle.specs.Listing.{in_byte_order};

@@ -10,9 +10,9 @@ use Rattle.std.proofs.lemmas.Bool.{lt-ltb}
 use Rattle.std.proofs.lemmas.Cmp.{then_total, on_total, nat_cmp_total, nat_list_cmp_total}
 use Rattle.std.proofs.lemmas.List.MinMax.{ranks_by}
 use Rattle.ocsf_tree.specs.declared.fault.Fault.{Fault}
-use Rattle.ocsf_tree.specs.ByName.{text_cmp}
+use Rattle.ocsf_lists.specs.ByName.{text_cmp}
 use Rattle.ocsf_tree.specs.LeastFault.{rank, fault_cmp, comes_before, least_from, least_fault, LeastIsLeast}
-use Rattle.ocsf_tree.proofs.Leasts.{least_after-append, least-is_least, least-parted}
+use Rattle.ocsf_lists.proofs.Leasts.{least_after-append, least-is_least, least-parted}
 
 pub fault_cmp_total : IsTotalOrder fault_cmp
 fault_cmp_total =

@@ -1,13 +1,9 @@
 pub mod Compared
 pub mod FirstFound
-pub mod FirstOfEach
-pub mod Givens
 pub mod Joined
 pub mod Keys
 pub mod LeastFaults
-pub mod Leasts
 pub mod MembersByName
-pub mod NameLists
 pub mod Order
 pub mod Places
 pub mod Pointers

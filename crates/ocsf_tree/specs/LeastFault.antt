@@ -2,11 +2,11 @@
 use Rattle.std.specs.Prelude.{ℕ, List, Bool, Option, Some, None}
 use Rattle.std.specs.declared.cmp.Ordering.{Ordering}
 use Rattle.std.specs.Ordering.{ordering_then, is_lt, nat_cmp}
-use Rattle.ocsf_tree.specs.Least.{lesser, least_after, IsLeastBy}
+use Rattle.ocsf_lists.specs.Least.{lesser, least_after, IsLeastBy}
 use Rattle.ocsf_tree.specs.declared.fault.Code.{Code}
 use Rattle.ocsf_tree.specs.declared.fault.Code.TheVariants as code
 use Rattle.ocsf_tree.specs.declared.fault.Fault.{Fault}
-use Rattle.ocsf_tree.specs.ByName.{text_cmp}
+use Rattle.ocsf_lists.specs.ByName.{text_cmp}
 
 -- faults of a lesser rank come first
 abbrev pub rank : Code → ℕ

@@ -1,6 +1,6 @@
 // What files and schemas have in common of attributes.
 use crate::text::Text;
-use crate::try_clone::TryClone;
+use ocsf_lists::{Named, TryClone};
 use std::alloc::AllocError;
 
 /// A member of an enumeration: the value as it is written, and what it means.
@@ -74,5 +74,13 @@ impl TryClone for EnumMember {
             caption: self.caption.copy()?,
             description: self.description.try_clone()?,
         })
+    }
+}
+
+impl Named for EnumMember {
+    ghost name_of = { λ member. member.key };
+
+    fn name(&self) -> &str {
+        self.key.as_str()
     }
 }

@@ -4,7 +4,7 @@ ghost use Rattle.std.specs.Ordering.{is_lt};
 ghost use Rattle.ocsf_tree.specs.LeastFault.{fault_cmp, lesser_fault};
 
 use crate::text::Text;
-use crate::try_clone::TryClone;
+use ocsf_lists::TryClone;
 use std::alloc::{AllocError, Global};
 use std::cmp::Ordering;
 

@@ -4,8 +4,8 @@ ghost use Rattle.serde_json.specs.View.{view, items_view, members_view};
 ghost use Rattle.ocsf_tree.specs.FirstInexact.{first, first_item, first_member};
 
 use crate::place::Step;
-use crate::row::Row;
 use crate::text::Text;
+use ocsf_lists::Row;
 use serde_json::{Map, Value};
 use std::alloc::{AllocError, Global};
 

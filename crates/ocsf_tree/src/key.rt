@@ -1,6 +1,6 @@
 // The full key of a class or an object.
 use crate::text::Text;
-use crate::try_clone::TryClone;
+use ocsf_lists::TryClone;
 use std::alloc::AllocError;
 
 /// Classes and objects have separate spaces of keys.

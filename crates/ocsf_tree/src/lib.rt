@@ -3,7 +3,6 @@
 #![tactic(auto)]
 
 mod attribute;
-mod by_name;
 mod equality;
 mod fault;
 mod first_inexact;
@@ -12,15 +11,11 @@ mod laws;
 mod place;
 mod printer;
 mod reader;
-mod row;
-mod shared;
 mod text;
 mod text_order;
 mod tree;
-mod try_clone;
 
 pub use attribute::{EnumMember, Requirement, Span};
-pub use by_name::{Named, find_by_name, first_of_each};
 pub use equality::is_same;
 pub use fault::{Code, Fault, lesser_fault};
 pub use key::{Key, Side};
@@ -29,10 +24,8 @@ pub use laws::{
     prints_join, prints_tell_trees_apart, reads_one_way,
 };
 pub use place::{Place, Step, place_order, pointer};
+pub use ocsf_lists::{Named, Row, Shared, TryClone, find_by_name, first_of_each};
 pub use printer::{print, quote};
 pub use reader::{TreeError, read};
-pub use row::Row;
-pub use shared::Shared;
-pub use text::Text;
+pub use text::{Text, both_copied};
 pub use tree::{Member, Tree};
-pub use try_clone::{TryClone, both_copied};

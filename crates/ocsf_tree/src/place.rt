@@ -3,9 +3,8 @@ ghost use Rattle.std.specs.Prelude.{◌≡◌, IfOk, OnOk, ◌++◌, ◌∷◌, 
 ghost use Rattle.std.specs.Char.{encode_utf8};
 ghost use Rattle.ocsf_tree.specs.Place.{step_cmp, place_cmp, pointer_byte, step_text, pointer_text};
 
-use crate::row::Row;
 use crate::text::Text;
-use crate::try_clone::TryClone;
+use ocsf_lists::{Row, TryClone};
 use std::alloc::{AllocError, Global};
 use std::cmp::Ordering;
 

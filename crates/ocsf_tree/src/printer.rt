@@ -9,9 +9,9 @@ ghost use Rattle.ocsf_tree.specs.Data.{data_of, list_data, members_data};
 ghost use Rattle.ocsf_tree.specs.CompactText.{text, quoted_text};
 ghost use Rattle.ocsf_tree.specs.Valid.{IsValid, IsValidList, IsValidMembers, is_whole};
 
-use crate::row::Row;
 use crate::tree::{Member, Tree};
 use json::Writer;
+use ocsf_lists::Row;
 use std::alloc::{AllocError, Global};
 
 /// The compact text: no blank, no line feed at the end, the members in byte order, the shortest escapes.

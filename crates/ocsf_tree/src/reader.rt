@@ -10,9 +10,9 @@ ghost use Rattle.ocsf_tree.specs.Reading.{IsReading, nesting};
 
 use crate::first_inexact::first_inexact;
 use crate::place::Place;
-use crate::row::Row;
 use crate::text::Text;
 use crate::tree::{Member, Tree};
+use ocsf_lists::Row;
 use serde_json::{Map, Number, Value};
 use std::alloc::{AllocError, Global};
 

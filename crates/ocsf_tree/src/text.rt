@@ -2,8 +2,7 @@
 ghost use Rattle.std.specs.declared.alloc.Global.{Global};
 ghost use Rattle.std.specs.Prelude.{◌≡◌, IfOk, string_bytes, [], IsTrue, ◌↔◌};
 
-use crate::shared::Shared;
-use crate::try_clone::TryClone;
+use ocsf_lists::{Named, Shared, TryClone};
 use std::alloc::{AllocError, Global};
 use std::fmt::{self, Debug, Formatter, Write};
 use std::marker::Model;
@@ -83,4 +82,25 @@ impl Debug for Text {
         let text = self.as_str();
         Debug::fmt(&text, f)
     }
+}
+
+impl Named for Text {
+    ghost name_of = { λ text. text };
+
+    fn name(&self) -> &str {
+        self.as_str()
+    }
+}
+
+/// Both texts, where they are given, with one more owner each.
+pub fn both_copied(
+    first: &Option<Text>,
+    second: &Option<Text>,
+) -> Result<(Option<Text>, Option<Text>), AllocError>
+    ensures first { IfOk result (λ made. made.0 ≡ first.now) }
+    ensures second { IfOk result (λ made. made.1 ≡ second.now) }
+{
+    let copied = first.try_clone()?;
+    let other = second.try_clone()?;
+    Ok((copied, other))
 }

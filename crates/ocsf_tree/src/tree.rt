@@ -4,10 +4,8 @@ ghost use Rattle.std.specs.Option.{IfSome, option_copied};
 ghost use Rattle.ocsf_tree.specs.Lookup.{member_at, member_in};
 ghost use Rattle.ocsf_tree.specs.Valid.{IsValid, IsValidMembers};
 
-use crate::by_name::find_by_name;
-use crate::row::Row;
 use crate::text::Text;
-use crate::try_clone::TryClone;
+use ocsf_lists::{Named, Row, TryClone, find_by_name};
 use std::alloc::AllocError;
 
 /// A JSON value. It is valid (`IsValid`) where at every depth whole numbers are signed or unsigned 64-bit
@@ -108,4 +106,12 @@ fn copy_members(members: &Row<Member>) -> Result<Row<Member>, AllocError>
         made.push(Member { name, value })?;
     }
     Ok(made)
+}
+
+impl Named for Member {
+    ghost name_of = { λ member. member.name };
+
+    fn name(&self) -> &str {
+        self.name.as_str()
+    }
 }

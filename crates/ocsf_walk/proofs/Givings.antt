@@ -7,8 +7,8 @@ use Rattle.ocsf_walk.specs.declared.given.Given.{Given}
 use Rattle.ocsf_walk.specs.declared.speakers.Speaker.{Speaker as Lent}
 use Rattle.ocsf_rules.specs.Chain.{Speaker}
 use Rattle.ocsf_rules.specs.Compiled.{written_in}
-use Rattle.ocsf_tree.specs.Given.{last_given}
-use Rattle.ocsf_tree.proofs.Givens.{last_given-push}
+use Rattle.ocsf_lists.specs.Given.{last_given}
+use Rattle.ocsf_lists.proofs.Givens.{last_given-push}
 use Rattle.ocsf_walk.specs.Given.{given_by, given_over}
 use Rattle.ocsf_walk.specs.Speakers.{speaker_of}
 

@@ -4,7 +4,7 @@ use Rattle.std.specs.Option.{option_or}
 use Rattle.ocsf_walk.specs.declared.given.Given.{Given}
 use Rattle.ocsf_rules.specs.Chain.{Speaker}
 use Rattle.ocsf_rules.specs.Compiled.{written_in}
-use Rattle.ocsf_tree.specs.Given.{last_given}
+use Rattle.ocsf_lists.specs.Given.{last_given}
 
 -- each field as the last of these files gives it
 abbrev pub given_by : List Speaker → Given

@@ -2,7 +2,7 @@
 ghost use Rattle.std.specs.Prelude.{◌≡◌, ◌≤◌, ◌+◌, IfOk, IfSome, Some, None, length, flat_map, not, if◌then◌else◌};
 ghost use Rattle.std.specs.List.{list_any, prefix_len};
 ghost use Rattle.std.specs.Ordering.{is_lt};
-ghost use Rattle.ocsf_tree.specs.ByName.{text_cmp};
+ghost use Rattle.ocsf_lists.specs.ByName.{text_cmp};
 ghost use Rattle.ocsf_tree.specs.Key.{key_text};
 ghost use Rattle.ocsf_tree.specs.LeastFault.{least_fault};
 ghost use Rattle.ocsf_bundle.specs.Looks.{is_there};

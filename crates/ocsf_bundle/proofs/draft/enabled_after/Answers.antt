@@ -2,7 +2,7 @@ use Rattle.std.proofs.Common.{◌≡◌, ℕ, List, take, Option, unwrap_or, sym
 use Rattle.std.specs.Option.{IfSome}
 use Rattle.std.specs.BTreeMap.{get}
 use Rattle.std.proofs.lemmas.List.{take_all}
-use Rattle.ocsf_tree.specs.ByName.{text_cmp, IsByName}
+use Rattle.ocsf_lists.specs.ByName.{text_cmp, IsByName}
 use Rattle.ocsf_bundle.specs.After.{said_of, name_said, stands_after}
 use Rattle.ocsf_bundle.specs.NamedMap.{values_in}
 use Rattle.ocsf_bundle.proofs.NamedMaps.{HoldsNames, IsByName-values, at_name-values}

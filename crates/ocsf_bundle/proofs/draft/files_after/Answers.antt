@@ -2,7 +2,7 @@ use Rattle.std.proofs.Common.{◌≡◌, ℕ, List, take, length, Option, unwrap
 use Rattle.std.specs.Option.{IfSome}
 use Rattle.std.specs.BTreeMap.{get}
 use Rattle.std.proofs.lemmas.List.{take_all}
-use Rattle.ocsf_tree.specs.ByName.{text_cmp, at_name, IsByName}
+use Rattle.ocsf_lists.specs.ByName.{text_cmp, at_name, IsByName}
 use Rattle.ocsf_bundle.specs.declared.stored.StoredFile.{StoredFile}
 use Rattle.ocsf_bundle.specs.Stored.{stored_path, IsStoredSound, AreFilesSound}
 use Rattle.ocsf_bundle.specs.After.{said_of, file_said, file_after}

@@ -1,7 +1,7 @@
 use Rattle.std.proofs.Common.{◌≡◌, ℕ, List, take, Some, None, sym, ap, ◌∙◌, arith, rules}
 use Rattle.std.specs.BTreeMap.{get}
 use Rattle.std.proofs.lemmas.List.{take_all}
-use Rattle.ocsf_tree.specs.ByName.{text_cmp}
+use Rattle.ocsf_lists.specs.ByName.{text_cmp}
 use Rattle.ocsf_bundle.specs.Keys.{giving}
 use Rattle.ocsf_bundle.specs.Groups.{given_by, grown_at}
 use Rattle.ocsf_bundle.proofs.Grouped.{unless_empty, giving-passed, giving-grown, groups_in-map}

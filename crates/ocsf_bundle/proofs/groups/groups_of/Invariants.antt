@@ -1,6 +1,6 @@
 use Rattle.std.proofs.Common.{◌≡◌, ℕ, List, take}
 use Rattle.std.specs.BTreeMap.{get}
-use Rattle.ocsf_tree.specs.ByName.{text_cmp}
+use Rattle.ocsf_lists.specs.ByName.{text_cmp}
 use Rattle.ocsf_bundle.specs.Keys.{giving}
 use Rattle.ocsf_bundle.specs.Groups.{given_by}
 use Rattle.ocsf_bundle.proofs.Grouped.{unless_empty}

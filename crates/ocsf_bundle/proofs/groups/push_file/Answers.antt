@@ -2,7 +2,7 @@ use Rattle.std.proofs.Common.{◌≡◌, [], ◌∷◌, ◌++◌, Bool, true, fa
 use Rattle.std.specs.BTreeMap.{get}
 use Rattle.std.specs.Ordering.{is_eq}
 use Rattle.std.proofs.lemmas.Map.Text.{is_eq-slice_cmp}
-use Rattle.ocsf_tree.specs.ByName.{text_cmp}
+use Rattle.ocsf_lists.specs.ByName.{text_cmp}
 use Rattle.ocsf_bundle.proofs.groups.push_file.Goals as goal
 use Rattle.ocsf_bundle.proofs.groups.push_file.Goals.{in-Some, in-None}
 

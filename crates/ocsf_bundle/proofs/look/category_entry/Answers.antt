@@ -2,7 +2,7 @@ use Rattle.std.proofs.Common.{◌≡◌, ◌≤◌, subst, rules}
 use Rattle.ocsf_raw.specs.declared.files.CategoryEntry.{CategoryEntry}
 use Rattle.ocsf_raw.specs.declared.files.RawFile.TheVariants.{Categories}
 use Rattle.ocsf_raw.specs.Ordered.{AreFileNumbersInRange}
-use Rattle.ocsf_tree.specs.ByName.{at_name}
+use Rattle.ocsf_lists.specs.ByName.{at_name}
 use Rattle.ocsf_bundle.proofs.Ordered.{at_name-holds, found-holds}
 use Rattle.ocsf_bundle.proofs.look.category_entry.Goals as goal
 

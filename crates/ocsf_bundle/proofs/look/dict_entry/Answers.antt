@@ -2,7 +2,7 @@ use Rattle.std.proofs.Common.{◌≡◌, subst, rules}
 use Rattle.ocsf_raw.specs.declared.dictionary.DictEntry.{DictEntry}
 use Rattle.ocsf_raw.specs.declared.files.RawFile.TheVariants.{Dictionary}
 use Rattle.ocsf_raw.specs.Ordered.{IsFileOrdered, IsByKey}
-use Rattle.ocsf_tree.specs.ByName.{at_name}
+use Rattle.ocsf_lists.specs.ByName.{at_name}
 use Rattle.ocsf_bundle.proofs.Ordered.{at_name-holds, found-holds}
 use Rattle.ocsf_bundle.proofs.look.dict_entry.Goals as goal
 

@@ -1,7 +1,7 @@
 use Rattle.std.proofs.Common.{◌≡◌, subst, rules}
 use Rattle.ocsf_raw.specs.declared.files.RawFile.TheVariants.{Dictionary}
 use Rattle.ocsf_raw.specs.Ordered.{IsFileOrdered, IsTypeValid}
-use Rattle.ocsf_tree.specs.ByName.{at_name}
+use Rattle.ocsf_lists.specs.ByName.{at_name}
 use Rattle.ocsf_bundle.proofs.Ordered.{at_name-holds, found-holds}
 use Rattle.ocsf_bundle.proofs.look.type_entry.Goals as goal
 

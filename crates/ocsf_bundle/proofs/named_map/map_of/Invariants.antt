@@ -1,6 +1,6 @@
 use Rattle.std.proofs.Common.{◌≡◌, ℕ, List, take}
 use Rattle.std.specs.BTreeMap.{get}
-use Rattle.ocsf_tree.specs.ByName.{at_name, text_cmp}
+use Rattle.ocsf_lists.specs.ByName.{at_name, text_cmp}
 use Rattle.ocsf_bundle.proofs.named_map.map_of.Given as goal
 
 abbrev pub invariant-loop-item : goal.invariant-loop-item

@@ -1,7 +1,7 @@
 use Rattle.std.proofs.Common.{cond, Some, ap, ◌∙◌}
 use Rattle.std.specs.BTreeMap.{get}
 use Rattle.std.proofs.lemmas.Map.Text.{is_eq-slice_cmp}
-use Rattle.ocsf_tree.specs.ByName.{text_cmp}
+use Rattle.ocsf_lists.specs.ByName.{text_cmp}
 use Rattle.ocsf_bundle.proofs.named_map.put_item.Goals as goal
 
 pub returns : goal.returns

@@ -1,7 +1,7 @@
 use Rattle.std.proofs.Common.{cond, None, ap, ◌∙◌}
 use Rattle.std.specs.BTreeMap.{get}
 use Rattle.std.proofs.lemmas.Map.Text.{is_eq-slice_cmp}
-use Rattle.ocsf_tree.specs.ByName.{text_cmp}
+use Rattle.ocsf_lists.specs.ByName.{text_cmp}
 use Rattle.ocsf_bundle.proofs.named_map.take_item.Goals as goal
 
 pub returns-clause-rest : goal.returns-clause-rest

@@ -1,6 +1,6 @@
 use Rattle.std.proofs.Common.{◌≡◌, ℕ, List, ◌++◌, IfOk, codes, sym, ap, subst, ◌∙◌}
-use Rattle.ocsf_tree.specs.ByName.{put_by_name}
-use Rattle.ocsf_tree.proofs.FirstOfEach.{first_of_each-by_name}
+use Rattle.ocsf_lists.specs.ByName.{put_by_name}
+use Rattle.ocsf_lists.proofs.FirstOfEach.{first_of_each-by_name}
 use Rattle.ocsf_bundle.specs.Listing.{in_byte_order}
 use Rattle.ocsf_rules.specs.MergedDictionary.{base_types}
 use Rattle.ocsf_compiler.proofs.kinds.data_types.Goals as goal

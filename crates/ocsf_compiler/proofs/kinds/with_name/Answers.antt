@@ -1,6 +1,6 @@
 use Rattle.std.proofs.Common.{◌≡◌, ℕ, List, sym, subst, rules}
-use Rattle.ocsf_tree.specs.ByName.{IsByName, put_by_name}
-use Rattle.ocsf_tree.proofs.NameLists.{IsByName-put}
+use Rattle.ocsf_lists.specs.ByName.{IsByName, put_by_name}
+use Rattle.ocsf_lists.proofs.NameLists.{IsByName-put}
 use Rattle.ocsf_compiler.proofs.kinds.with_name.Goals as goal
 
 pub returns-clause-by_name : goal.returns-clause-by_name

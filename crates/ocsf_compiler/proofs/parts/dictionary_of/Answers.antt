@@ -1,6 +1,6 @@
 use Rattle.std.proofs.Common.{◌≡◌, List, IfOk, map, sym, ap, subst, ◌∙◌, rules}
 use Rattle.std.specs.Prelude.{All}
-use Rattle.ocsf_tree.specs.ByName.{IsByName}
+use Rattle.ocsf_lists.specs.ByName.{IsByName}
 use Rattle.ocsf_tree.specs.declared.tree.Tree.TheVariants as tree
 use Rattle.ocsf_raw.specs.declared.dictionary.DictEntry.{DictEntry}
 use Rattle.ocsf_raw.specs.Ordered.{IsByKey}

@@ -1,7 +1,7 @@
 use Rattle.std.proofs.Common.{◌≡◌, ℕ, List, ◌++◌, IfOk, sym, ap, subst, ◌∙◌, rules}
 use Rattle.std.specs.Prelude.{filter_map}
 use Rattle.std.specs.Result.{result_ok}
-use Rattle.ocsf_tree.specs.ByName.{IsByName}
+use Rattle.ocsf_lists.specs.ByName.{IsByName}
 use Rattle.ocsf_raw.specs.declared.dictionary.TypeEntry.{TypeEntry}
 use Rattle.ocsf_schema.specs.declared.records.Kind.{Kind}
 use Rattle.ocsf_kind.specs.Kinds.{kind_of}

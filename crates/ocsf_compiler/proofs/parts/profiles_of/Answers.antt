@@ -1,5 +1,5 @@
 use Rattle.std.proofs.Common.{◌≡◌, ℕ, List, IfOk, sym, subst, rules}
-use Rattle.ocsf_tree.specs.ByName.{IsByName}
+use Rattle.ocsf_lists.specs.ByName.{IsByName}
 use Rattle.ocsf_bundle.specs.FilesLook.{looks}
 use Rattle.ocsf_bundle.specs.Listing.{listing}
 use Rattle.ocsf_rules.specs.Compilation.{compilation}

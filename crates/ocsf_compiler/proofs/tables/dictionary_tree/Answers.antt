@@ -1,6 +1,6 @@
 use Rattle.std.proofs.Common.{◌≡◌, map, take, refl, sym, ap, subst, ◌∙◌, List, arith}
 use Rattle.std.proofs.lemmas.List.{take_all}
-use Rattle.ocsf_tree.specs.ByName.{IsByName}
+use Rattle.ocsf_lists.specs.ByName.{IsByName}
 use Rattle.ocsf_tree.specs.declared.tree.Member.{Member}
 use Rattle.ocsf_raw.specs.declared.dictionary.DictEntry.{DictEntry}
 use Rattle.ocsf_rules.specs.PrintedSchema.{member, entry_tree}

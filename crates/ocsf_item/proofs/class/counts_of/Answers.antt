@@ -1,7 +1,7 @@
 use Rattle.std.proofs.Common.{[], unwrap_or, sym, ◌∙◌, ap, subst}
 use Rattle.std.specs.Prelude.{codes}
 use Rattle.std.specs.Option.{option_map_or}
-use Rattle.ocsf_tree.specs.ByName.{IsByName, at_name}
+use Rattle.ocsf_lists.specs.ByName.{IsByName, at_name}
 use Rattle.ocsf_merge.proofs.TablesByName.{IsByName-table_of}
 use Rattle.ocsf_rules.specs.Names.{ext_of}
 use Rattle.ocsf_rules.specs.Chain.{layers}

@@ -1,5 +1,5 @@
 use Rattle.std.proofs.Common.{map, refl, sym, ◌∙◌, subst}
-use Rattle.ocsf_tree.specs.ByName.{IsByName}
+use Rattle.ocsf_lists.specs.ByName.{IsByName}
 use Rattle.ocsf_merge.proofs.TablesByName.{IsByName-table_of}
 use Rattle.ocsf_rules.specs.Names.{ext_of}
 use Rattle.ocsf_rules.specs.Chain.{layers}

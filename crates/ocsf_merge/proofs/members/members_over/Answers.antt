@@ -1,6 +1,6 @@
 use Rattle.std.proofs.Common.{◌≡◌, List, ◌++◌, IfOk, sym, ap, subst, ◌∙◌}
 use Rattle.ocsf_tree.specs.declared.attribute.EnumMember.{EnumMember}
-use Rattle.ocsf_tree.proofs.FirstOfEach.{first_of_each-by_name}
+use Rattle.ocsf_lists.proofs.FirstOfEach.{first_of_each-by_name}
 use Rattle.ocsf_merge.specs.Fold.{merged_members}
 use Rattle.ocsf_merge.proofs.MergedLists.{merged-first_of_each}
 use Rattle.ocsf_merge.proofs.members.members_over.Goals as goal

@@ -1,6 +1,6 @@
 use Rattle.std.proofs.Common.{◌≡◌, ap, sym, ◌∙◌, Some}
 use Rattle.ocsf_tree.specs.Key.{key_text}
-use Rattle.ocsf_tree.proofs.NameLists.{at_name-at, at_name-none, never_tied}
+use Rattle.ocsf_lists.proofs.NameLists.{at_name-at, at_name-none, never_tied}
 use Rattle.ocsf_schema.proofs.lookup.find_by_key.Goals as goal
 
 pub returns-in-Ok-clause-item : goal.returns-in-Ok-clause-item

@@ -1,8 +1,8 @@
 use Rattle.std.proofs.Common.{rules}
 use Rattle.std.proofs.lemmas.Fn.{always_returns_same}
-use Rattle.ocsf_tree.specs.ByName.{text_cmp}
+use Rattle.ocsf_lists.specs.ByName.{text_cmp}
 use Rattle.ocsf_tree.specs.Key.{key_text}
-use Rattle.ocsf_tree.proofs.NameLists.{searched}
+use Rattle.ocsf_lists.proofs.NameLists.{searched}
 use Rattle.ocsf_schema.proofs.lookup.search_by_key.Goals as goal
 
 pub returns-clause-found : goal.returns-clause-found

@@ -1,6 +1,6 @@
 use Rattle.std.proofs.Common.{◌≡◌, ℕ, List, Some, None, sym, subst, ◌∙◌, rules}
-use Rattle.ocsf_tree.specs.ByName.{IsByName, put_by_name}
-use Rattle.ocsf_tree.proofs.NameLists.{IsByName-put}
+use Rattle.ocsf_lists.specs.ByName.{IsByName, put_by_name}
+use Rattle.ocsf_lists.proofs.NameLists.{IsByName-put}
 use Rattle.ocsf_tool.specs.Folders.{extension_name}
 use Rattle.ocsf_tool.proofs.FolderReads.{names-more, names-passed}
 use Rattle.ocsf_tool.proofs.folder.extensions_of.Goals as goal

@@ -1,8 +1,8 @@
 use Rattle.std.proofs.Common.{◌≡◌, ℕ, List, Some, None, take, sym, ap, subst, ◌∙◌, arith, rules}
 use Rattle.std.specs.List.{filter_map}
 use Rattle.std.proofs.lemmas.List.{take_all}
-use Rattle.ocsf_tree.specs.ByName.{IsByName, put_by_name}
-use Rattle.ocsf_tree.proofs.NameLists.{IsByName-put}
+use Rattle.ocsf_lists.specs.ByName.{IsByName, put_by_name}
+use Rattle.ocsf_lists.proofs.NameLists.{IsByName-put}
 use Rattle.ocsf_bundle.specs.Listing.{in_byte_order}
 use Rattle.ocsf_tool.specs.FolderParts.{if_formed}
 use Rattle.ocsf_tool.proofs.FolderReads.{names-more, names-passed, formed-kept}

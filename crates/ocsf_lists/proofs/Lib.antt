@@ -1,0 +1,4 @@
+pub mod FirstOfEach
+pub mod Givens
+pub mod Leasts
+pub mod NameLists
