@@ -11,6 +11,7 @@ use Rattle.ocsf_lists.specs.Given.{last_given}
 use Rattle.ocsf_lists.specs.ByName.{text_cmp}
 use Rattle.ocsf_tree.specs.Key.{side_text}
 pub use Rattle.ocsf_tree.specs.Fault.{fault}
+use Rattle.ocsf_tree.specs.FaultGroups.{Blame, blame, blame_if, FaultGroup, group_of, faults_in}
 use Rattle.ocsf_tree.specs.LeastFault.{least_fault}
 use Rattle.ocsf_tree.specs.declared.fault.Fault.{Fault}
 use Rattle.ocsf_tree.specs.declared.fault.Code.{Code}
@@ -54,11 +55,11 @@ abbrev pub max_items : ℕ
 max_items = 4096
 
 -- there are more than may be
-abbrev pub too_many : List ℕ → ℕ → ℕ → Option Fault
-too_many what limit n = fault_if (nat_lt limit n) (fault code.TooMany (codes "bundle") what)
+abbrev pub too_many : List ℕ → ℕ → ℕ → Option Blame
+too_many what limit n = blame_if (nat_lt limit n) (codes "bundle") what
 
 -- an enabled name counts whether or not an extension has it
-abbrev pub limits_passed : List StoredFile → List (List ℕ) → ℕ → List Fault
+abbrev pub limits_passed : List StoredFile → List (List ℕ) → ℕ → List Blame
 limits_passed files enabled items = filter_map (λ passed. passed) (
     too_many (codes "files") max_files (length files)
     ∷ too_many (codes "bytes") max_bytes (sum_by (λ file. length file.text) files)
@@ -69,24 +70,23 @@ limits_passed files enabled items = filter_map (λ passed. passed) (
 -- ---- extensions
 
 -- an enabled name of which no file is that of the extension
-abbrev pub extension_unknown : List ActiveFile → List ℕ → Option Fault
-extension_unknown active name =
-    fault_if (not (is_there (giving extension_given name active))) (fault code.ExtensionUnknown name [])
+abbrev pub extension_unknown : List ActiveFile → List ℕ → Option Blame
+extension_unknown active name = blame_if (not (is_there (giving extension_given name active))) name []
 
-abbrev pub unknown_extensions : List (List ℕ) → List ActiveFile → List Fault
+abbrev pub unknown_extensions : List (List ℕ) → List ActiveFile → List Blame
 unknown_extensions enabled active = filter_map (extension_unknown active) enabled
 
 -- ---- keys
 
 -- the second of the files that give one key
-abbrev pub second_of : List ℕ → List ℕ → List ActiveFile → Option Fault
-second_of label name (x ∷ y ∷ rest) = Some (fault code.KeyClash (labelled label name) y.file.path)
+abbrev pub second_of : List ℕ → List ℕ → List ActiveFile → Option Blame
+second_of label name (x ∷ y ∷ rest) = Some (blame (labelled label name) y.file.path)
 second_of label name _ = None
 
-abbrev pub clashes : List ℕ → (ActiveFile → Option (List ℕ)) → List ActiveFile → List Fault
+abbrev pub clashes : List ℕ → (ActiveFile → Option (List ℕ)) → List ActiveFile → List Blame
 clashes label key active = filter_map (λ name. second_of label name (giving key name active)) (keys_given key active)
 
-abbrev pub key_clashes : List ActiveFile → List Fault
+abbrev pub key_clashes : List ActiveFile → List Blame
 key_clashes active =
     clashes (side_text side.Class) (key_given side.Class) active
     ++ clashes (side_text side.Object) (key_given side.Object) active
@@ -99,14 +99,14 @@ key_clashes active =
 abbrev pub is_before : ℕ → List ℕ → Numbered → Bool
 is_before number name x = (x.number == number) && is_lt (text_cmp x.name name)
 
-abbrev pub taken : List ℕ → Numbered → Fault
-taken label x = fault code.UidTaken (labelled label x.name) (decimal x.number)
+abbrev pub taken : List ℕ → Numbered → Blame
+taken label x = blame (labelled label x.name) (decimal x.number)
 
 -- something that has the number of one of a lesser name
-abbrev pub number_taken : List ℕ → List Numbered → Numbered → Option Fault
-number_taken label all x = fault_if (list_any (is_before x.number x.name) all) (taken label x)
+abbrev pub number_taken : List ℕ → List Numbered → Numbered → Option Blame
+number_taken label all x = if list_any (is_before x.number x.name) all then Some (taken label x) else None
 
-abbrev pub numbers_taken : List ℕ → List Numbered → List Fault
+abbrev pub numbers_taken : List ℕ → List Numbered → List Blame
 numbers_taken label all = filter_map (number_taken label all) all
 
 abbrev pub numbered : List ℕ → ℕ → Numbered
@@ -133,7 +133,7 @@ abbrev pub with_other : List Numbered → List Numbered
 with_other categories =
     if list_any is_other categories then categories else categories ++ numbered (codes "other") 0 ∷ []
 
-abbrev pub uids_taken : List ActiveFile → List Fault
+abbrev pub uids_taken : List ActiveFile → List Blame
 uids_taken active =
     numbers_taken (codes "extension") (extension_numbers active)
     ++ numbers_taken (codes "category") (with_other (listed_categories active))
@@ -148,15 +148,15 @@ abbrev pub is_given : List ActiveFile → IsGiven
 is_given active s name = is_there (giving (key_given s) name active)
 
 -- of a patch: that what it patches, by that key, isn't there
-abbrev pub patch_at : IsGiven → ActiveFile → Side → List ℕ → Option Fault
-patch_at given active s key = fault_if (not (given s key)) (fault code.PatchTarget active.file.path key)
+abbrev pub patch_at : IsGiven → ActiveFile → Side → List ℕ → Option Blame
+patch_at given active s key = blame_if (not (given s key)) active.file.path key
 
-abbrev pub patch_fault : IsGiven → ActiveFile → Option Fault
-patch_fault given active =
+abbrev pub patch_of_nothing : IsGiven → ActiveFile → Option Blame
+patch_of_nothing given active =
     option_and_then (λ file. option_and_then (patch_at given active file.side) (patched active file)) (item_of active)
 
-abbrev pub patch_faults : List ActiveFile → List Fault
-patch_faults active = filter_map (patch_fault (is_given active)) active
+abbrev pub patches_of_nothing : List ActiveFile → List Blame
+patches_of_nothing active = filter_map (patch_of_nothing (is_given active)) active
 
 -- ---- types
 
@@ -210,13 +210,17 @@ listed_types active = flat_map types_of active
 -- ---- all
 
 -- the faults that are looked at first
+abbrev pub file_groups : List StoredFile → List (List ℕ) → List ActiveFile → List FaultGroup
+file_groups files enabled active =
+    group_of code.TooMany (limits_passed files enabled (length (active_keys active)))
+    ∷ group_of code.ExtensionUnknown (unknown_extensions enabled active)
+    ∷ group_of code.KeyClash (key_clashes active)
+    ∷ group_of code.UidTaken (uids_taken active)
+    ∷ group_of code.PatchTarget (patches_of_nothing active)
+    ∷ []
+
 abbrev pub file_faults : List StoredFile → List (List ℕ) → List ActiveFile → List Fault
-file_faults files enabled active =
-    limits_passed files enabled (length (active_keys active))
-    ++ (unknown_extensions enabled active
-    ++ (key_clashes active
-    ++ (uids_taken active
-    ++ patch_faults active)))
+file_faults files enabled active = faults_in (file_groups files enabled active)
 
 -- those that are looked at where there are none of the first
 abbrev pub type_faults : Kinds → List ActiveFile → List Fault

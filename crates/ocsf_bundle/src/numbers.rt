@@ -1,14 +1,16 @@
 // Numbers of extensions and categories that are given twice.
-ghost use Rattle.std.specs.Prelude.{◌≡◌, ℕ, List, ◌++◌, ◌||◌, ◌+◌, ◌*◌, map, IfOk, OnOk};
+ghost use Rattle.std.specs.Prelude.{◌≡◌, ℕ, List, ◌++◌, ◌||◌, ◌+◌, ◌*◌, map, Some, None, IfOk, OnOk};
+ghost use Rattle.std.specs.Prelude.{if◌then◌else◌};
 ghost use Rattle.std.specs.Ordering.{nat_cmp};
 ghost use Rattle.std.specs.List.{list_any};
 ghost use Rattle.std.specs.BTreeMap.{get};
 ghost use Rattle.ocsf_tree.specs.LeastFault.{least_from, least_fault};
 ghost use Rattle.ocsf_bundle.specs.Active.{extension_uid};
 ghost use Rattle.ocsf_bundle.specs.FilesLook.{categories_said};
-ghost use Rattle.ocsf_bundle.specs.BundleFaults.{fault_if, is_before, taken, numbers_taken, extension_numbers};
-ghost use Rattle.ocsf_bundle.specs.BundleFaults.{category_number, listed_categories, is_other, with_other, uids_taken};
-ghost use Rattle.ocsf_bundle.specs.OwnFaults.{has_lesser};
+ghost use Rattle.ocsf_tree.specs.FaultGroups.{fault_of};
+ghost use Rattle.ocsf_bundle.specs.BundleFaults.{is_before, taken, extension_numbers};
+ghost use Rattle.ocsf_bundle.specs.BundleFaults.{category_number, listed_categories, is_other, with_other};
+ghost use Rattle.ocsf_bundle.specs.OwnFaults.{has_lesser, fault_where, number_faults, uid_faults};
 
 use crate::active::extension_said;
 use crate::faults::{fault, labelled, lesser_of};
@@ -61,7 +63,7 @@ fn least_names(alloc: Global, items: &[Numbered]) -> Result<BTreeMap<u64, Text>,
 }
 
 fn taken(alloc: Global, label: &str, item: &Numbered) -> Result<Fault, AllocError>
-    ensures { IfOk result (λ made. made ≡ taken label.now item.now) }
+    ensures { IfOk result (λ made. made ≡ fault_of Code.UidTaken (taken label.now item.now)) }
 {
     let subject = labelled(alloc, label, item.name.as_str())?;
     let number = format!(in alloc; "{}", item.number)?;
@@ -74,8 +76,9 @@ fn number_taken(
     names: &BTreeMap<u64, Text>,
     item: &Numbered,
 ) -> Result<Option<Fault>, AllocError>
-    ensures { IfOk result (λ made. made
-        ≡ fault_if (has_lesser (get nat_cmp names.now item.now.number) item.now.name) (taken label.now item.now)) }
+    ensures { IfOk result (λ made. made ≡ fault_where Code.UidTaken
+        (if has_lesser (get nat_cmp names.now item.now.number) item.now.name
+        then Some (taken label.now item.now) else None)) }
 {
     if is_taken(names, item.number, &item.name) {
         Ok(Some(taken(alloc, label, item)?))
@@ -91,7 +94,7 @@ fn note_taken(
     items: &[Numbered],
     mut least: Option<Fault>,
 ) -> Result<Option<Fault>, AllocError>
-    ensures { IfOk result (λ made. made ≡ least_from least (numbers_taken label.now items.now)) }
+    ensures { IfOk result (λ made. made ≡ least_from least (number_faults label.now items.now)) }
 {
     let names = least_names(alloc, items)?;
     for item in items {
@@ -199,7 +202,7 @@ fn category_numbers(alloc: Global, active: &[ActiveFile]) -> Result<Row<Numbered
 
 /// The least fault of the numbers of extensions and categories.
 pub fn uid_taken(alloc: Global, active: &[ActiveFile]) -> Result<Option<Fault>, AllocError>
-    ensures { IfOk result (λ made. made ≡ least_fault (uids_taken active.now)) }
+    ensures { IfOk result (λ made. made ≡ least_fault (uid_faults active.now)) }
 {
     let extensions = extension_numbers(alloc, active)?;
     let categories = category_numbers(alloc, active)?;

@@ -1,12 +1,11 @@
 // The least fault of the files as a whole and of their types.
-ghost use Rattle.std.specs.Prelude.{◌≡◌, IfOk, nat_lt, length, codes};
+ghost use Rattle.std.specs.Prelude.{◌≡◌, IfOk, nat_lt, length};
 ghost use Rattle.std.specs.List.{sum_by};
 ghost use Rattle.ocsf_lists.specs.ByName.{IsByName};
 ghost use Rattle.ocsf_tree.specs.LeastFault.{least_fault};
 ghost use Rattle.ocsf_bundle.specs.Stored.{stored_path};
 ghost use Rattle.ocsf_bundle.specs.Parts.{AreActiveSound, AreGroupsByName};
-ghost use Rattle.ocsf_bundle.specs.BundleFaults.{fault, fault_if, limits_passed};
-ghost use Rattle.ocsf_bundle.specs.OwnFaults.{lesser_of, file_fault_in, own_fault_in};
+ghost use Rattle.ocsf_bundle.specs.OwnFaults.{lesser_of, limit_fault, limit_faults, file_fault_in, own_fault_in};
 
 use crate::active::active_files;
 use crate::faults::{fault, lesser_of};
@@ -49,7 +48,7 @@ fn too_many(
     is_passed: bool,
 ) -> Result<Option<Fault>, AllocError>
     ensures { IfOk result (λ made. made
-        ≡ lesser_of least (fault_if is_passed (fault Code.TooMany (codes "bundle") what.now))) }
+        ≡ lesser_of least (limit_fault what.now is_passed)) }
 {
     if is_passed {
         let found = fault(alloc, Code::TooMany, Text::of(alloc, "bundle")?, what)?;
@@ -66,7 +65,7 @@ fn limit_passed(
     enabled: &[Text],
     items: usize,
 ) -> Result<Option<Fault>, AllocError>
-    ensures { IfOk result (λ made. made ≡ least_fault (limits_passed files.now enabled.now items)) }
+    ensures { IfOk result (λ made. made ≡ least_fault (limit_faults files.now enabled.now items)) }
 {
     let least = too_many(alloc, None, "files", files.len() > MAX_FILES)?;
     let least = too_many(alloc, least, "bytes", is_longer(files, MAX_BYTES))?;

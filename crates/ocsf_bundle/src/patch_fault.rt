@@ -3,8 +3,8 @@ ghost use Rattle.std.specs.Prelude.{◌≡◌, IfOk};
 ghost use Rattle.std.specs.List.{filter_map};
 ghost use Rattle.ocsf_tree.specs.LeastFault.{least_fault};
 ghost use Rattle.ocsf_bundle.specs.Parts.{AreGroupsByName};
-ghost use Rattle.ocsf_bundle.specs.BundleFaults.{patch_at, patch_fault};
-ghost use Rattle.ocsf_bundle.specs.OwnFaults.{given_in};
+ghost use Rattle.ocsf_bundle.specs.BundleFaults.{patch_at};
+ghost use Rattle.ocsf_bundle.specs.OwnFaults.{given_in, fault_where, patch_fault};
 
 use crate::faults::{fault, lesser_of};
 use crate::groups::group_at;
@@ -30,7 +30,8 @@ fn patch_at(
     key: &Text,
 ) -> Result<Option<Fault>, AllocError>
     requires { AreGroupsByName index.now }
-    ensures { IfOk result (λ made. made ≡ patch_at (given_in index.now.items) active.now side key.now) }
+    ensures { IfOk result (λ made. made
+        ≡ fault_where Code.PatchTarget (patch_at (given_in index.now.items) active.now side key.now)) }
 {
     if is_given(index, side, key) {
         return Ok(None);

@@ -1,7 +1,7 @@
 -- Numbers that a class of a lesser key has: asked of the first class of a number, and of all classes.
-use Rattle.std.proofs.Common.{◌≡◌, ℕ, ◌≤◌, ◌<◌, List, [], ◌∷◌, ◌++◌, map, Bool, true, false, cond, ◌&&◌, ◌||◌, not, Option, Some, None, refl, sym, ◌∙◌, ap, arith}
-use Rattle.std.specs.Prelude.{◌==◌, if◌then◌else◌, is_none, flat_map, decimal, All, nat_lt, length, codes}
-use Rattle.std.specs.Option.{option_map, option_map_or, option_and_then, option_or, IfSome}
+use Rattle.std.proofs.Common.{◌≡◌, ℕ, List, [], ◌∷◌, ◌++◌, map, Bool, true, false, cond, ◌&&◌, ◌||◌, not, Option, Some, None, refl, sym, ◌∙◌, ap}
+use Rattle.std.specs.Prelude.{◌==◌, if◌then◌else◌, is_none, flat_map, decimal, nat_lt, length, codes}
+use Rattle.std.specs.Option.{option_map, option_map_or, option_and_then, option_or}
 use Rattle.std.specs.List.{find, filter_map, cons_option, list_any}
 use Rattle.std.specs.declared.cmp.Ordering.{Ordering}
 use Rattle.std.specs.declared.cmp.Ordering.TheVariants.{Less, Equal, Greater}
@@ -9,7 +9,7 @@ use Rattle.std.specs.Ordering.{is_lt}
 use Rattle.std.specs.Cmp.Lexicographic.{nat_list_cmp_total}
 use Rattle.std.specs.FinMap.Entries.{below_all}
 use Rattle.std.proofs.lemmas.Bool.{and_parts}
-use Rattle.std.proofs.lemmas.List.Elements.{All-nil, All-cons}
+use Rattle.std.proofs.lemmas.List.{map-append}
 use Rattle.ocsf_tree.specs.declared.fault.Fault.{Fault}
 use Rattle.ocsf_tree.specs.declared.fault.Code.TheVariants as code
 use Rattle.ocsf_tree.specs.declared.key.Side.{Side}
@@ -17,8 +17,9 @@ use Rattle.ocsf_tree.specs.declared.key.Side.TheVariants.{Class, Object}
 use Rattle.ocsf_tree.specs.declared.key.Key.{Key}
 use Rattle.ocsf_tree.specs.Key.{key_text}
 use Rattle.ocsf_lists.specs.ByName.{text_cmp, named, is_by_name, IsByName}
-use Rattle.ocsf_tree.specs.LeastFault.{rank, least_fault}
-use Rattle.ocsf_tree.proofs.LeastFaults.{least_fault-by_rank}
+use Rattle.ocsf_tree.specs.LeastFault.{least_fault}
+use Rattle.ocsf_tree.specs.FaultGroups.{Blame, blame, fault_of, group_of, faults_of, faults_in}
+use Rattle.ocsf_tree.proofs.FaultGroups.{least-faults_in}
 use Rattle.ocsf_schema.specs.declared.records.Item.{Item}
 use Rattle.ocsf_schema.specs.Lookups as lookups
 use Rattle.ocsf_bundle.specs.Looks.{Looks}
@@ -27,7 +28,7 @@ use Rattle.ocsf_kind.specs.Numbers.{class_uid}
 use Rattle.ocsf_rules.specs.Names.{ext_of}
 use Rattle.ocsf_rules.specs.Compiled.{item, uid, category, ext_uid, class_number}
 use Rattle.ocsf_rules.specs.ItemFaults.{fault}
-use Rattle.ocsf_rules.specs.SchemaFaults.{has_number, comes_before, is_taken, number_fault, uid_clash, max_print, too_large}
+use Rattle.ocsf_rules.specs.SchemaFaults.{has_number, comes_before, is_taken, number_clash, uid_clash, max_print, schema_groups}
 use Rattle.ocsf_compiler.specs.Building.{is_taken_in, clash_of, clash_in, large_fault}
 
 -- ---- the first of them decides
@@ -136,62 +137,42 @@ module _ (b : Looks) (ks : List Key) (s : IsByName key_text ks) where
   abbrev items : List Item
   items = map (item b) ks
 
-  if_listed : (c : Bool) (f : Fault) (rest : List Fault) → cons_option (fault_if c f) rest ≡ (if c then f ∷ [] else []) ++ rest
-  if_listed true f rest = refl
-  if_listed false f rest = refl
+  if_listed : (c : Bool) (b : Blame) (rest : List Fault) → cons_option (fault_if c (fault_of code.UidClash b)) rest ≡ map (fault_of code.UidClash) (if c then b ∷ [] else []) ++ rest
+  if_listed true b rest = refl
+  if_listed false b rest = refl
 
   abbrev clash : Key → ℕ → Bool → Option Fault
   clash x n c = fault_if c (fault code.UidClash (key_text x) (decimal n))
 
-  by_number : (x : Key) (rest : List Fault) (o : Option ℕ) → cons_option (option_and_then (clash_of items (item b x)) o) rest ≡ option_map_or (number_fault b ks x) o [] ++ rest
+  by_number : (x : Key) (rest : List Fault) (o : Option ℕ) → cons_option (option_and_then (clash_of items (item b x)) o) rest ≡ map (fault_of code.UidClash) (option_map_or (number_clash b ks x) o []) ++ rest
   unfolding item
   by_number x rest None = refl
   by_number x rest (Some n) =
       ap (λ (c : Bool). cons_option (clash x n c) rest) (taken b n x ks s)
-      ∙ if_listed (is_taken b ks x n) (fault code.UidClash (key_text x) (decimal n)) rest
+      ∙ if_listed (is_taken b ks x n) (blame (key_text x) (decimal n)) rest
 
-  of_one : (x : Key) (rest : List Fault) → cons_option (clash_in items (item b x)) rest ≡ uid_clash b ks x ++ rest
+  of_one : (x : Key) (rest : List Fault) → cons_option (clash_in items (item b x)) rest ≡ map (fault_of code.UidClash) (uid_clash b ks x) ++ rest
   unfolding item
   of_one x rest = by_number x rest (class_number b x)
 
   -- the faults of items are those of their keys
-  of_each : (xs : List Key) → filter_map (clash_in items) (map (item b) xs) ≡ flat_map (uid_clash b ks) xs
+  of_each : (xs : List Key) → filter_map (clash_in items) (map (item b) xs) ≡ faults_of (group_of code.UidClash (flat_map (uid_clash b ks) xs))
   of_each [] = refl
-  of_each (x ∷ xs) = ap (cons_option (clash_in items (item b x))) (of_each xs) ∙ of_one x (flat_map (uid_clash b ks) xs)
+  of_each (x ∷ xs) =
+      let rest = flat_map (uid_clash b ks) xs in
+      ap (cons_option (clash_in items (item b x))) (of_each xs)
+      ∙ of_one x (map (fault_of code.UidClash) rest)
+      ∙ sym (map-append (fault_of code.UidClash) (uid_clash b ks x) rest)
 
 -- ---- with that of the print
 
-abbrev IsUpTo60 : Fault → Type 0
-IsUpTo60 f = rank f.code ≤ 60
-
-abbrev IsPast60 : Fault → Type 0
-IsPast60 f = 60 < rank f.code
-
-low_if : (c : Bool) (f : Fault) → IsUpTo60 f → IfSome (fault_if c f) IsUpTo60
-low_if true f h = h
-low_if false f h = tt
-
-low_of : (items : List Item) (i : Item) (o : Option ℕ) → IfSome (option_and_then (clash_of items i) o) IsUpTo60
-low_of items i None = tt
-low_of items i (Some n) = low_if (is_taken_in items i n) (fault code.UidClash (key_text i.key) (decimal n)) (omega (arith))
-
-low_more : (o : Option Fault) (fs : List Fault) → IfSome o IsUpTo60 → All IsUpTo60 fs → All IsUpTo60 (cons_option o fs)
-low_more None fs h r = r
-low_more (Some f) fs h r = All-cons IsUpTo60 f fs h r
-
-low_all : (items is : List Item) → All IsUpTo60 (filter_map (clash_in items) is)
-low_all items [] = All-nil IsUpTo60
-low_all items (i ∷ is) = low_more (clash_in items i) (filter_map (clash_in items) is) (low_of items i i.class_uid) (low_all items is)
-
-least_if : (cs : List Fault) → All IsUpTo60 cs → (c : Bool) → least_fault (cs ++ (if c then fault code.TooLarge (codes "bundle") (codes "print") ∷ [] else []))
-    ≡ option_or (least_fault cs) (fault_if c (fault code.TooLarge (codes "bundle") (codes "print")))
-least_if cs h true = least_fault-by_rank 60 cs (fault code.TooLarge (codes "bundle") (codes "print") ∷ []) h (All-cons IsPast60 (fault code.TooLarge (codes "bundle") (codes "print")) [] (omega (arith)) (All-nil IsPast60))
-least_if cs h false = least_fault-by_rank 60 cs [] h (All-nil IsPast60)
+if_large : (c : Bool) (b : Blame) → fault_if c (fault_of code.TooLarge b) ≡ option_or (least_fault (map (fault_of code.TooLarge) (if c then b ∷ [] else []))) None
+if_large true b = refl
+if_large false b = refl
 
 -- the least fault of a schema
 pub schema_least : (b : Looks) (ks : List Key) (print : List ℕ) → IsByName key_text ks
-    → option_or (least_fault (filter_map (clash_in (map (item b) ks)) (map (item b) ks))) (large_fault (length print)) ≡ least_fault (flat_map (uid_clash b ks) ks ++ too_large print)
+    → option_or (least_fault (filter_map (clash_in (map (item b) ks)) (map (item b) ks))) (large_fault (length print)) ≡ least_fault (faults_in (schema_groups b ks print))
 schema_least b ks print s =
-    let is = map (item b) ks in
-    sym (least_if (filter_map (clash_in is) is) (low_all is is) (nat_lt max_print (length print)))
-    ∙ ap (λ cs. least_fault (cs ++ too_large print)) (of_each b ks s ks)
+    (λ i. option_or (least_fault (of_each b ks s ks i)) (if_large (nat_lt max_print (length print)) (blame (codes "bundle") (codes "print")) i))
+    ∙ sym (least-faults_in (schema_groups b ks print) refl)

@@ -13,8 +13,7 @@ use Rattle.ocsf_tree.specs.Key.{key_text, same_side}
 use Rattle.ocsf_tree.specs.declared.key.Key.{Key}
 use Rattle.ocsf_tree.specs.declared.key.Side.{Side}
 use Rattle.ocsf_tree.specs.declared.key.Side.TheVariants.{Class, Object}
-use Rattle.ocsf_tree.specs.declared.fault.Fault.{Fault}
-use Rattle.ocsf_tree.specs.declared.fault.Code.TheVariants as code
+use Rattle.ocsf_tree.specs.FaultGroups.{Blame, blame}
 use Rattle.ocsf_lists.proofs.NameLists.{text_cmp-same, head_below, tail_by_name, at_name-at}
 use Rattle.ocsf_schema.specs.Lookups.{class_number as number_of, is_number, class_at}
 use Rattle.ocsf_schema.specs.declared.records.Item.{Item}
@@ -28,9 +27,8 @@ use Rattle.ocsf_rules.specs.Names.{key, ext_of}
 use Rattle.ocsf_rules.specs.Chain.{own_file}
 use Rattle.ocsf_rules.specs.Compiled.{is_class_side, starts_low, ext_uid, category, class_number, item}
 use Rattle.ocsf_rules.specs.Compilation.{compilation}
-use Rattle.ocsf_rules.specs.ItemFaults.{fault}
 use Rattle.ocsf_rules.specs.PrintedSchema.{schema_parts}
-use Rattle.ocsf_rules.specs.SchemaFaults.{has_number, comes_before, is_taken, number_fault, uid_clash}
+use Rattle.ocsf_rules.specs.SchemaFaults.{has_number, comes_before, is_taken, number_clash, uid_clash}
 use Rattle.ocsf_rules.specs.Verdict.{IsFaultless}
 use Rattle.ocsf_rule_laws.specs.ClosedLaws.{AreNumbersShown, AreFoundByNumber}
 use Rattle.ocsf_rule_laws.proofs.Faultless.{no_clash}
@@ -130,7 +128,7 @@ first_found b n (j ∷ js) k ordered free there has =
           ∙ first_found b n js k (tail_by_name key_text j js ordered) rest.1 later has
     ] there
 
-not_taken : (taken : Bool) (f : Fault) → (if taken then f ∷ [] else []) ≡ [] → taken ≡ false
+not_taken : (taken : Bool) (f : Blame) → (if taken then f ∷ [] else []) ≡ [] → taken ≡ false
 not_taken true f e = cc
 not_taken false f e = refl
 
@@ -157,10 +155,10 @@ module _ (bundle : Stored) (sound : IsFaultless bundle) where
   IsFound k number = IfSome number (λ n. class_at n (compilation bundle).pieces ≡ Some (item b k))
 
   found_number : (k : Key) (o : Option ℕ) → class_number b k ≡ o → at_name key_text (key_text k) keys ≡ Some k
-      → option_map_or (number_fault b keys k) o [] ≡ [] → IsFound k o
+      → option_map_or (number_clash b keys k) o [] ≡ [] → IsFound k o
   found_number k None same there none = tt
   found_number k (Some n) same there none =
-      by_number n k there (not_taken (is_taken b keys k n) (fault code.UidClash (key_text k) (decimal n)) none) same
+      by_number n k there (not_taken (is_taken b keys k n) (blame (key_text k) (decimal n)) none) same
 
   each_found : All (λ k. IsFound k (class_number b k)) keys
   each_found =

@@ -1,11 +1,13 @@
 -- What a bundle without a fault hasn't: a fault of its types, and one of its schema.
-use Rattle.std.proofs.Common.{◌≡◌, List, [], ◌∷◌, ◌++◌, Option, Some, None, refl, subst}
+use Rattle.std.proofs.Common.{◌≡◌, List, [], ◌∷◌, ◌++◌, map, Option, Some, None, refl, subst}
 use Rattle.std.specs.Prelude.{All, filter_map, flat_map}
 use Rattle.std.specs.Option.{option_or}
 use Rattle.std.specs.List.{cons_option}
 use Rattle.std.proofs.lemmas.List.Elements.{All-nil, All-cons}
 use Rattle.ocsf_tree.specs.LeastFault.{least_fault, IsLeastOf}
 use Rattle.ocsf_tree.specs.declared.fault.Fault.{Fault}
+use Rattle.ocsf_tree.specs.declared.fault.Code.TheVariants as code
+use Rattle.ocsf_tree.specs.FaultGroups.{fault_of, group_of, faults_of}
 use Rattle.ocsf_tree.proofs.LeastFaults.{least_is_least}
 use Rattle.ocsf_bundle.specs.Active.{active_files}
 use Rattle.ocsf_bundle.specs.BundleFaults.{file_faults, type_fault, type_faults, own_fault, listed_types}
@@ -58,6 +60,10 @@ each_gives_nil f (x ∷ xs) e =
     All-cons (λ x. f x ≡ []) x xs (nil_first (f x) (flat_map f xs) e)
     (each_gives_nil f xs (nil_second (f x) (flat_map f xs) e))
 
+nil_mapped : {X Y : Type 0} (f : X → Y) (xs : List X) → map f xs ≡ [] → xs ≡ []
+nil_mapped f [] e = refl
+nil_mapped f (x ∷ xs) e = absurd (cons_is_not_nil (f x) (map f xs) e)
+
 -- ---- a bundle without a fault
 
 module _ (bundle : Stored) (sound : IsFaultless bundle) where
@@ -100,5 +106,6 @@ module _ (bundle : Stored) (sound : IsFaultless bundle) where
   unfolding schema_faults
   no_clash =
       each_gives_nil (uid_clash looks_of_it listing_of_it.items) listing_of_it.items
-      (nil_first (flat_map (uid_clash looks_of_it listing_of_it.items) listing_of_it.items)
-      (too_large (printed_schema looks_of_it listing_of_it)) no_schema_faults)
+      (nil_mapped (fault_of code.UidClash) (flat_map (uid_clash looks_of_it listing_of_it.items) listing_of_it.items)
+      (nil_first (faults_of (group_of code.UidClash (flat_map (uid_clash looks_of_it listing_of_it.items) listing_of_it.items)))
+      (faults_of (group_of code.TooLarge (too_large (printed_schema looks_of_it listing_of_it))) ++ []) no_schema_faults))

@@ -1,4 +1,5 @@
 pub mod Compared
+pub mod FaultGroups
 pub mod FirstFound
 pub mod Joined
 pub mod Keys

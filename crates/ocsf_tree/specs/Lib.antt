@@ -3,6 +3,7 @@ pub mod CompactText
 pub mod Data
 pub mod Equality
 pub mod Fault
+pub mod FaultGroups
 pub mod FirstInexact
 pub mod Key
 pub mod Laws

@@ -1,7 +1,7 @@
 use Rattle.std.proofs.Common.{◌≡◌}
 use Rattle.std.specs.List.{filter_map}
 use Rattle.ocsf_tree.specs.LeastFault.{least_fault}
-use Rattle.ocsf_bundle.specs.BundleFaults.{patch_fault}
+use Rattle.ocsf_bundle.specs.OwnFaults.{patch_fault}
 use Rattle.ocsf_bundle.specs.OwnFaults.{given_in}
 use Rattle.ocsf_bundle.proofs.Noted.{left_of}
 use Rattle.ocsf_bundle.proofs.patch_fault.patch_target.Given as goal

@@ -35,7 +35,9 @@ the_items_listed = list-listed
 
 -- the fields of a `Row`, split as those of the `Vec` in it
 abbrev stored : Former {0}
-stored = via (vec.the_former this Global) Inside (λ X row. row.items) (λ X items. record { items = items }) (λ X row. refl) (λ X items. refl)
+stored =
+    via (vec.the_former this Global) Inside (λ X row. row.items) (λ X items. record { items = items })
+    (λ X row. refl) (λ X items. refl)
 
 module _ (A B : RattleType) (h : A.Denot → B.Denot) where
   abbrev mapped : List A.Denot → List B.Denot
@@ -45,7 +47,8 @@ module _ (A B : RattleType) (h : A.Denot → B.Denot) where
   the_places alike =
       let fields = struct_places (inside.the_type A) (inside.the_type B) (vec.mapped h, tt) _ (λ row. refl) refl
       (laid _ _ _ (vec.the_places allocator.the_row ghosts A B h alike), tt) in
-      view_places stored (list this) view (λ X Y k row. refl) (λ X row. refl) A.Denot B.Denot h (the_row A).coded (the_row B).coded
+      view_places stored (list this) view (λ X Y k row. refl) (λ X row. refl) A.Denot B.Denot h
+      (the_row A).coded (the_row B).coded
       (invariant A.Denot) (invariant B.Denot) (λ row p q. refl) (λ row p q. refl) (λ row held. tt) (λ row held. tt)
       (over (inside.the_row A)) (over (inside.the_row B)) fields
 
