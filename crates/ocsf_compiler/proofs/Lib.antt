@@ -5,4 +5,3 @@ pub mod Listed
 pub mod Printed
 pub mod Clashes
 pub mod SoundItems
-pub mod DeepPatterns

@@ -17,7 +17,7 @@ use Rattle.ocsf_schema.specs.declared.parts.SchemaParts.{SchemaParts}
 use Rattle.ocsf_lists.specs.Among.{is_among}
 use Rattle.ocsf_kind.specs.Accepted.{FitsBase, Meets}
 use Rattle.ocsf_kind.specs.declared.accepted.Which.TheVariants.{MaxLen, Range, Values}
-use Rattle.ocsf_event_rules.specs.Matches.{is_found}
+use Rattle.ocsf_pattern.specs.Matches.{is_found}
 use Rattle.ocsf_event_rules.specs.Profiles.{is_in_force, is_profile, named_profiles}
 use Rattle.ocsf_event_rules.specs.EventClass.{is_null, value_of, whole_of, attribute_named}
 

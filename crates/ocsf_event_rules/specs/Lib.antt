@@ -1,6 +1,5 @@
 pub mod Profiles
 pub mod EventClass
-pub mod Matches
 pub mod Conditions
 pub mod Allowed
 pub mod Judged

@@ -6,7 +6,7 @@ use Rattle.regex.specs.Patterns.{default_config}
 use Rattle.regex_syntax.specs.Grammar.{read}
 use Rattle.ocsf_tree.specs.declared.fault.Fault.{Fault}
 use Rattle.ocsf_raw.specs.declared.dictionary.TypeEntry.{TypeEntry}
-use Rattle.ocsf_rules.specs.Patterns.{IsRead, IsGood, IsBad}
+use Rattle.ocsf_pattern.specs.Readings.{IsRead, IsGood, IsBad}
 use Rattle.ocsf_rules.specs.Verdict.{bundle_fault, types_of, HasReadPattern, pattern_refused, IsRefusal, IsPatternVerdict, AreDecided, IsVerdictAfter}
 use Rattle.ocsf_rule_laws.specs.VerdictLaws.{HasOneVerdict}
 

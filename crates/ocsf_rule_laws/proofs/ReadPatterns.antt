@@ -15,7 +15,7 @@ use Rattle.ocsf_bundle.specs.Listing.{listing}
 use Rattle.ocsf_bundle.proofs.Ordered.{at_name-holds, filter_map-all}
 use Rattle.ocsf_rules.specs.Compilation.{compilation}
 use Rattle.ocsf_rules.specs.MergedDictionary.{data_types}
-use Rattle.ocsf_rules.specs.Patterns.{IsRead}
+use Rattle.ocsf_pattern.specs.Readings.{IsRead}
 use Rattle.ocsf_rules.specs.PrintedSchema.{schema_parts}
 use Rattle.ocsf_rules.specs.Verdict.{bundle_fault, types_of, HasReadPattern, IsVerdictAfter}
 use Rattle.ocsf_rule_laws.specs.PatternLaws.{ReadsEveryPattern}

@@ -5,9 +5,9 @@ use Rattle.std.proofs.lemmas.List.Elements.{All-nil, All-cons}
 use Rattle.ocsf_tree.specs.declared.fault.Fault.{Fault}
 use Rattle.ocsf_raw.specs.declared.dictionary.TypeEntry.{TypeEntry}
 use Rattle.ocsf_bundle.specs.Stored.{Stored}
-use Rattle.ocsf_rules.specs.Patterns.{IsRead, IsGood, IsBad}
+use Rattle.ocsf_pattern.specs.Readings.{IsRead, IsGood, IsBad}
 use Rattle.ocsf_rules.specs.Verdict.{bundle_fault, types_of, HasReadPattern, pattern_refused, IsPatternVerdict, IsVerdictAfter, IsVerdict}
-use Rattle.ocsf_rules.proofs.ReadPatterns.{bad_is_not_good}
+use Rattle.ocsf_pattern.proofs.Readings.{bad_is_not_good}
 
 -- ---- one pattern
 

@@ -14,7 +14,7 @@ use Rattle.ocsf_rules.specs.ItemFaults.{fault, chain_faults, layers_faults, own_
 use Rattle.ocsf_bundle.specs.Listing.{Listing, listing}
 use Rattle.ocsf_rules.specs.MergedDictionary.{merged_types}
 use Rattle.ocsf_rules.specs.SchemaFaults.{schema_faults}
-use Rattle.ocsf_rules.specs.Patterns.{IsRead, IsGood, IsBad}
+use Rattle.ocsf_pattern.specs.Readings.{IsRead, IsGood, IsBad}
 
 -- ---- the least fault
 

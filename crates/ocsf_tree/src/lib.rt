@@ -23,8 +23,8 @@ pub use laws::{
     every_text_reads, keys_go_by_their_texts, least_faults_are_least, places_are_ordered,
     prints_join, prints_tell_trees_apart, reads_one_way,
 };
-pub use place::{Place, Step, place_order, pointer};
 pub use ocsf_lists::{Named, Row, Shared, TryClone, find_by_name, first_of_each};
+pub use place::{Place, Step, place_order, pointer};
 pub use printer::{print, quote};
 pub use reader::{TreeError, read};
 pub use text::{Text, both_copied};

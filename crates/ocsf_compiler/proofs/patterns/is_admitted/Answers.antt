@@ -1,0 +1,12 @@
+use Rattle.std.proofs.Common.{refl, rules}
+use Rattle.ocsf_pattern.specs.Readings.{IsGood}
+use Rattle.ocsf_pattern.proofs.Readings.{good_is_read, refused_is_not_good}
+use Rattle.ocsf_compiler.proofs.patterns.is_admitted.Goals as goal
+
+pub returns-in-Ok-clause-read : goal.returns-in-Ok-clause-read
+returns-in-Ok-clause-read c = λ _.
+    let good : IsGood c.args.text.now = search rules in
+    good_is_read c.args.text.now good
+
+pub returns-in-Err-Refused-clause-refused : goal.returns-in-Err-Refused-clause-refused
+returns-in-Err-Refused-clause-refused c = λ _. refused_is_not_good c.args.text.now (c.admit.ensures.refused refl)

@@ -1,0 +1,6 @@
+//! Patterns of texts, by `regex`, with the last used ones kept built.
+#![tactic(auto)]
+
+mod patterns;
+
+pub use patterns::{PatternError, Patterns};
