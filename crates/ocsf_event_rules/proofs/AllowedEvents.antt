@@ -1,9 +1,9 @@
 -- Nothing is wrong with an event that is allowed.
 use Rattle.std.proofs.Common.{◌≡◌, ℕ, List, [], ◌∷◌, Bool, true, false, true≢false, Option, Some, None, refl, sym, ◌∙◌}
 use Rattle.std.proofs.Common.{ap, subst, if◌then◌else◌}
-use Rattle.std.proofs.Common.{suc, zero}
+use Rattle.std.proofs.Common.{suc, zero, inl, inr}
 use Rattle.std.specs.List.{AllByRecursion, cons_option}
-use Rattle.std.specs.Prelude.{◌&&◌, filter, filter_map, Contains, IfSome, IsSomeAnd, slice_get, is_some}
+use Rattle.std.specs.Prelude.{◌&&◌, filter, filter_map, Contains, IsSomeAnd, slice_get, is_some}
 use Rattle.std.specs.Option.{option_map, option_and_then}
 use Rattle.std.proofs.lemmas.Option.{slice_get_within, get_or_from_slice_get}
 use Rattle.std.proofs.lemmas.List.Elements.{All-contains, recursion_from_All}
@@ -23,7 +23,7 @@ use Rattle.ocsf_schema.specs.declared.records.Kind.{Kind}
 use Rattle.ocsf_schema.specs.declared.records.Limit.{Limit}
 use Rattle.ocsf_schema.specs.declared.parts.SchemaParts.{SchemaParts}
 use Rattle.ocsf_event_rules.specs.Profiles.{as_list, as_text, profile_list, is_in_force, is_profile, named_profiles}
-use Rattle.ocsf_event_rules.specs.EventClass.{as_object, value_of, item_named, kind_named, attribute_named, class_of}
+use Rattle.ocsf_event_rules.specs.EventClass.{as_object, value_of, item_named, attribute_named, class_of}
 use Rattle.ocsf_event_rules.specs.EventClass.{class_of_event}
 use Rattle.ocsf_event_rules.specs.Allowed.{Fits, Open, Closed, FitsMember, Member_of, Accepts, Single, Each}
 use Rattle.ocsf_event_rules.specs.Allowed.{AcceptsSingle, OfKind, OfObject, OfAnything, IsAllowed}
@@ -65,24 +65,18 @@ module _ (schema : SchemaParts) (profiles : List (List ℕ)) where
   abbrev judged : Option Item → Tree → Option ItemObject
   judged item value = option_and_then (λ item. option_map (with_item item) (as_object value)) item
 
-  of_members : (item : Option Item) (members : List Member) (object : ItemObject)
-      → option_and_then (λ item. option_map (with_item item) (Some members)) item ≡ Some object
-      → ((i : Item) → item ≡ Some i → Fits schema profiles i members) → Fits schema profiles object.item object.members
-  of_members None members object e fits = absurd (none_is_some object e)
-  of_members (Some i) members object e fits =
-      subst (λ (o : ItemObject). Fits schema profiles o.item o.members) (some_is (with_item i members) object e)
-      (fits i refl)
-
   of_single : {attr : Attr} {value : Tree} (object : ItemObject) → AcceptsSingle schema profiles attr value
       → judged (object_of schema attr.target) value ≡ Some object → Fits schema profiles object.item object.members
-  of_single object (OfKind attr value name named kind key) e =
+  of_single object (OfKind attr value name kind named is_kind takes key) e =
       absurd (none_is_some object (subst (λ t. judged (object_of schema t) value ≡ Some object) named e))
   of_single object (OfAnything attr value named some) e =
       absurd (none_is_some object (subst (λ t. judged (object_of schema t) value ≡ Some object) named e))
-  of_single object (OfObject attr value members name named is fits) e =
-      of_members (item_named schema name) members object
+  of_single object (OfObject attr value name item members named is_item is fits) e =
+      subst (λ (o : ItemObject). Fits schema profiles o.item o.members)
+      (some_is (with_item item members) object
+      (subst (λ i. option_and_then (λ item. option_map (with_item item) (Some members)) i ≡ Some object) is_item
       (subst (λ o. option_and_then (λ item. option_map (with_item item) o) (item_named schema name) ≡ Some object) is
-      (subst (λ t. judged (object_of schema t) value ≡ Some object) named e))
+      (subst (λ t. judged (object_of schema t) value ≡ Some object) named e))))
       fits
 
   of_list : (attr : Attr) (value : Tree) (object : ItemObject) (array : Bool) → attr.is_array ≡ array
@@ -209,17 +203,16 @@ module _ (schema : SchemaParts) (profiles : List (List ℕ)) where
   none_there : {X : Type 0} (o : Option X) → is_some o ≡ true → o ≡ None → ⊥
   none_there o e n = true≢false (sym e ∙ ap is_some n)
 
-  of_kind : (kind : Option Kind) (value : Tree) → IfSome kind (λ k. IsOfKind k value)
-      → IsSomeAnd kind (λ k. IsOfBase k.base value → ⊥) → ⊥
-  of_kind None value good wrong = wrong
-  of_kind (Some k) value good wrong = wrong good.0
-
   not_wrong_single : {attr : Attr} {value : Tree} (detail : List ℕ) → AcceptsSingle schema profiles attr value
       → IsWrongSingle schema attr.target value detail → ⊥
-  not_wrong_single detail (OfKind attr value name named kind key) wrong =
-      of_kind (kind_named schema name) value kind (subst (λ t. IsWrongSingle schema t value detail) named wrong).0
-  not_wrong_single detail (OfObject attr value members name named is fits) wrong =
-      none_some (as_object value) members is (subst (λ t. IsWrongSingle schema t value detail) named wrong).0
+  not_wrong_single detail (OfKind attr value name kind named is_kind takes key) wrong =
+      (subst (λ t. IsWrongSingle schema t value detail) named wrong).0
+      (subst (λ o. IsSomeAnd o (λ k. IsOfBase k.base value)) (sym is_kind) takes.0)
+  not_wrong_single detail (OfObject attr value name item members named is_item is fits) wrong =
+      elim (subst (λ t. IsWrongSingle schema t value detail) named wrong).0 [
+        | inl no_item ↦ none_some (item_named schema name) item is_item no_item
+        | inr no_object ↦ none_some (as_object value) members is no_object
+      ]
   not_wrong_single detail (OfAnything attr value named some) wrong =
       none_there (as_object value) some (subst (λ t. IsWrongSingle schema t value detail) named wrong).0
 
@@ -244,20 +237,24 @@ module _ (schema : SchemaParts) (profiles : List (List ℕ)) where
   unbroken meets (NotAnInstant not) = not meets.instant
   unbroken meets (NotAValue not) = not meets.values
 
-  all_unbroken : (kind : Option Kind) (value : Tree) (code : ℕ) (detail : List ℕ) → IfSome kind (λ k. IsOfKind k value)
-      → IsSomeAnd kind (λ k. IsOfBase k.base value
-      × ((limit : Limit) × Contains k.limits limit × IsLimitBroken limit value code detail)) → ⊥
-  all_unbroken None value code detail good wrong = wrong
-  all_unbroken (Some k) value code detail good wrong =
+  abbrev BreaksOne : Kind → Tree → ℕ → List ℕ → Type 0
+  BreaksOne kind value code detail =
+      IsOfBase kind.base value
+      × ((limit : Limit) × Contains kind.limits limit × IsLimitBroken limit value code detail)
+
+  all_unbroken : (kind : Kind) (value : Tree) (code : ℕ) (detail : List ℕ) → IsOfKind kind value
+      → BreaksOne kind value code detail → ⊥
+  all_unbroken kind value code detail good wrong =
       let at = wrong.1 in
-      unbroken (All-contains (λ l. MeetsLimit l value) k.limits at.0 good.1 at.1) at.2
+      unbroken (All-contains (λ l. MeetsLimit l value) kind.limits at.0 good.1 at.1) at.2
 
   breaks_none : {attr : Attr} {value : Tree} (code : ℕ) (detail : List ℕ) → AcceptsSingle schema profiles attr value
       → BreaksLimit schema attr.target value code detail → ⊥
-  breaks_none code detail (OfKind attr value name named kind key) wrong =
-      all_unbroken (kind_named schema name) value code detail kind
-      (subst (λ t. BreaksLimit schema t value code detail) named wrong)
-  breaks_none code detail (OfObject attr value members name named is fits) wrong =
+  breaks_none code detail (OfKind attr value name kind named is_kind takes key) wrong =
+      all_unbroken kind value code detail takes
+      (subst (λ o. IsSomeAnd o (λ k. BreaksOne k value code detail)) is_kind
+      (subst (λ t. BreaksLimit schema t value code detail) named wrong))
+  breaks_none code detail (OfObject attr value name item members named is_item is fits) wrong =
       subst (λ t. BreaksLimit schema t value code detail) named wrong
   breaks_none code detail (OfAnything attr value named some) wrong =
       subst (λ t. BreaksLimit schema t value code detail) named wrong
@@ -273,8 +270,8 @@ module _ (schema : SchemaParts) (profiles : List (List ℕ)) where
 
   is_a_key : {attr : Attr} {value : Tree} (detail : List ℕ) → AcceptsSingle schema profiles attr value
       → IsNoKey schema attr value detail → ⊥
-  is_a_key detail (OfKind attr value name named kind key) wrong = wrong.0 key
-  is_a_key detail (OfObject attr value members name named is fits) wrong =
+  is_a_key detail (OfKind attr value name kind named is_kind takes key) wrong = wrong.0 key
+  is_a_key detail (OfObject attr value name item members named is_item is fits) wrong =
       no_key_in (out-Tree value) detail wrong.1 (ap is_some is)
   is_a_key detail (OfAnything attr value named some) wrong = no_key_in (out-Tree value) detail wrong.1 some
 

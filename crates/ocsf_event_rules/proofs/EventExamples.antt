@@ -1,5 +1,5 @@
 -- Events judged by the definitions alone, over a schema of one class and one object.
-use Rattle.std.proofs.Common.{◌≡◌, ℕ, List, [], ◌∷◌, ◌++◌, true, false, Some, None, codes, refl, map}
+use Rattle.std.proofs.Common.{◌≡◌, ℕ, List, [], ◌∷◌, ◌++◌, true, false, Some, None, codes, refl, map, inr}
 use Rattle.std.specs.Prelude.{pos, option_map, option_and_then}
 use Rattle.ocsf_tree.specs.declared.key.Key.{Key}
 use Rattle.ocsf_tree.specs.declared.key.Side.{Side}
@@ -72,12 +72,15 @@ fs = record (attr (codes "fs") (target.Object (codes "f"))) { is_array = true }
 abbrev of_profile : Attr
 of_profile = record (attr (codes "p") target.Anything) { profile = Some (codes "q") }
 
+abbrev class_uid : Attr
+class_uid = attr (codes "class_uid") (target.Simple (codes "integer_t"))
+
 class : Item
 class = record item {
   key = key Class (codes "c");
   class_uid = Some 7;
   attrs =
-      attr (codes "class_uid") (target.Simple (codes "integer_t"))
+      class_uid
       ∷ fs
       ∷ of_profile
       ∷ [];
@@ -164,7 +167,14 @@ unfolding event schema class fs number files
 null_in_a_list =
     AtValue (Name (codes "fs") ∷ At 0 ∷ []) (record { judge = OfElement fs; value = tree.Null }) wrong_type
     (codes "object_t")
-    (simp layers refl) (WrongType (codes "object_t") (simp layers refl, refl))
+    (simp layers refl) (WrongType (codes "object_t") (inr (simp layers refl), refl))
+
+no_kind : IsViolation schema event (Name (codes "class_uid") ∷ []) wrong_type (codes "integer_t")
+unfolding event schema class fs number files
+no_kind =
+    AtValue (Name (codes "class_uid") ∷ []) (record { judge = OfAttribute class_uid; value = number 7 }) wrong_type
+    (codes "integer_t")
+    (simp layers refl) (WrongType (codes "integer_t") (λ none. none, refl))
 
 missing_name : IsViolation schema event (Name (codes "fs") ∷ At 1 ∷ Name (codes "n") ∷ []) required_missing []
 unfolding event schema class fs file number files second of_file

@@ -5,7 +5,7 @@ use Rattle.std.specs.List.{AllByRecursion, cons_option}
 use Rattle.std.specs.Ordering.{int_eq}
 use Rattle.std.proofs.lemmas.Bool.Decides.{Decides-int_eq}
 use Rattle.ocsf_event_rules.specs.EventLaws.{FaultlessIsAllowed}
-use Rattle.std.specs.Prelude.{ℤ, cond, filter_map, find, Contains, IfSome, IsSome, IsSomeAnd, slice_get, slice_index_or}
+use Rattle.std.specs.Prelude.{ℤ, filter_map, Contains, IfSome, IsSome, IsSomeAnd, slice_get, slice_index_or}
 use Rattle.std.specs.Prelude.{is_some, codes}
 use Rattle.std.specs.Option.{option_map, option_and_then, option_map_or}
 use Rattle.std.proofs.lemmas.Option.{slice_get-get_or}
@@ -36,8 +36,8 @@ use Rattle.ocsf_schema.specs.declared.parts.SchemaParts.{SchemaParts}
 use Rattle.ocsf_lists.specs.Among.{is_among}
 use Rattle.ocsf_event_rules.specs.Profiles.{as_list, as_text, profile_list, is_in_force, is_profile, named_profiles}
 use Rattle.ocsf_event_rules.specs.EventClass.{as_object, is_null, unless_null, value_of, item_named, kind_named}
-use Rattle.ocsf_event_rules.specs.EventClass.{attribute_named, class_of, class_of_event, whole_of, class_numbered}
-use Rattle.ocsf_event_rules.specs.EventClass.{has_number, is_number}
+use Rattle.ocsf_event_rules.specs.EventClass.{attribute_named, class_of, class_of_event, whole_of}
+use Rattle.ocsf_event_rules.proofs.Classes.{class_has_number}
 use Rattle.ocsf_event_rules.specs.Allowed.{Fits, Open, Closed, FitsMember, Member_of, Accepts, Single, Each}
 use Rattle.ocsf_event_rules.specs.Allowed.{AcceptsSingle, OfKind, OfObject, OfAnything, IsAllowed}
 use Rattle.ocsf_event_rules.specs.Conditions.{IsOfBase, IsOfKind, MeetsLimit, IsOfEnumeration, enum_key, is_key}
@@ -189,13 +189,19 @@ module _ (schema : SchemaParts) (event : Tree)
         instant = stable.instant limit.instant (out-Tree own) (λ not. unbroken (NotAnInstant not));
       }
 
-    of_kind : (name : List ℕ) → attr.target ≡ target.Simple name → (kind : Option Kind) → kind_named schema name ≡ kind
-        → IfSome kind (λ k. IsOfKind k own)
-    of_kind name is_simple None is = tt
-    of_kind name is_simple (Some kind) is =
-        let base = stable.of_base kind.base own (λ not.
+    abbrev IsOfBaseOf : Option Kind → Type 0
+    IsOfBaseOf kind = IsSomeAnd kind (λ k. IsOfBase k.base own)
+
+    has_base : (name : List ℕ) → attr.target ≡ target.Simple name → (kind : Option Kind) → kind_named schema name ≡ kind
+        → (IsOfBaseOf kind → ⊥) → ⊥
+    has_base name is_simple kind is not =
         not_wrong name (subst (λ t. IsWrongSingle schema t own name) (sym is_simple)
-        (subst (λ o. IsSomeAnd o (λ k. IsOfBase k.base own → ⊥)) (sym is) not, refl))) in (
+        (subst (λ o. IsOfBaseOf o → ⊥) (sym is) not, refl))
+
+    of_kind : (name : List ℕ) → attr.target ≡ target.Simple name → (kind : Kind) → kind_named schema name ≡ Some kind
+        → IsOfKind kind own
+    of_kind name is_simple kind is =
+        let base = stable.of_base kind.base own (λ not. has_base name is_simple (Some kind) is not) in (
           base,
           λ k d lt. meets name is_simple kind is base (slice_index_or kind.limits k d)
               (Contains-get_or kind.limits k d lt),
@@ -212,24 +218,29 @@ module _ (schema : SchemaParts) (event : Tree)
         no_key [] = tt
         no_key (m ∷ ms) = subst (λ o. IfSome o (λ name. is_key (m ∷ ms) name ≡ true)) (sym is) tt
 
-    no_object : (name : List ℕ) → attr.target ≡ target.Object name → as_object own ≡ None → ⊥
+    of_simple : (name : List ℕ) → attr.target ≡ target.Simple name → (kind : Option Kind)
+        → kind_named schema name ≡ kind → AcceptsSingle schema ps attr own
+    of_simple name is None none = absurd (has_base name is None none (λ x. x))
+    of_simple name is (Some kind) is_kind =
+        OfKind attr own name kind is is_kind (of_kind name is kind is_kind)
+        (stable.of_enumeration attr.members own (of_key (enum_key own) refl))
+
+    no_object : (name : List ℕ) → attr.target ≡ target.Object name
+        → (item_named schema name ≡ None) ⊎ (as_object own ≡ None) → ⊥
     no_object name is none =
         not_wrong (codes "object_t") (subst (λ t. IsWrongSingle schema t own (codes "object_t")) (sym is) (none, refl))
 
-    fits_named : (name : List ℕ) → attr.target ≡ target.Object name → (members : List Member)
-        → as_object own ≡ Some members
-        → (item : Item) → item_named schema name ≡ Some item → Fits schema ps item members
-    fits_named name is members is_members item is_item =
-        object_fits place here (with_item item members) is_seen
+    of_object : (name : List ℕ) → attr.target ≡ target.Object name → (item : Option Item)
+        → item_named schema name ≡ item → (members : Option (List Member)) → as_object own ≡ members
+        → AcceptsSingle schema ps attr own
+    of_object name is None no_item members is_members = absurd (no_object name is (inl no_item))
+    of_object name is (Some item) is_item None no_members = absurd (no_object name is (inr no_members))
+    of_object name is (Some item) is_item (Some members) is_members =
+        OfObject attr own name item members is is_item is_members
+        (object_fits place here (with_item item members) is_seen
         (ap₂ (λ i o. option_and_then (λ item. option_map (with_item item) o) i)
         (as_item ∙ ap (object_of schema) is ∙ is_item) is_members)
-        below
-
-    of_object : (name : List ℕ) → attr.target ≡ target.Object name → (members : Option (List Member))
-        → as_object own ≡ members → AcceptsSingle schema ps attr own
-    of_object name is None none = absurd (no_object name is none)
-    of_object name is (Some members) is_members =
-        OfObject attr own members name is is_members (fits_named name is members is_members)
+        below)
 
     of_anything : attr.target ≡ target.Anything → (members : Option (List Member)) → as_object own ≡ members
         → AcceptsSingle schema ps attr own
@@ -239,10 +250,8 @@ module _ (schema : SchemaParts) (event : Tree)
     of_anything is (Some members) is_members = OfAnything attr own is (ap is_some is_members)
 
     by_target : (t : Target) → attr.target ≡ t → AcceptsSingle schema ps attr own
-    by_target (target.Simple name) is =
-        OfKind attr own name is (of_kind name is (kind_named schema name) refl)
-        (stable.of_enumeration attr.members own (of_key (enum_key own) refl))
-    by_target (target.Object name) is = of_object name is (as_object own) refl
+    by_target (target.Simple name) is = of_simple name is (kind_named schema name) refl
+    by_target (target.Object name) is = of_object name is (item_named schema name) refl (as_object own) refl
     by_target target.Anything is = of_anything is (as_object own) refl
 
     accepts_single : AcceptsSingle schema ps attr own
@@ -491,25 +500,6 @@ module _ (schema : SchemaParts) (event : Tree)
 
   -- ---- the event
 
-  found_passes : (p : Item → Bool) (xs : List Item) (x : Item) → find p xs ≡ Some x → p x ≡ true
-  found_passes p [] x e = absurd (none_is_some x e)
-  found_passes p (y ∷ ys) x e = by_test (p y) refl (λ e. found_passes p ys x e) e
-    where
-      by_test : (b : Bool) → p y ≡ b → (find p ys ≡ Some x → p x ≡ true) → cond b (Some y) (find p ys) ≡ Some x
-          → p x ≡ true
-      by_test true is rest e = subst (λ z. p z ≡ true) (some_is y x e) is
-      by_test false is rest e = rest e
-
-  -- the class of an event has a number
-  numbered : (members : List Member) (class : Item) → class_of schema members ≡ Some class → class.class_uid ≡ None → ⊥
-  numbered members class known none = by_whole (whole_of (codes "class_uid") members) known
-    where
-      by_whole : (whole : Option ℤ) → option_and_then (class_numbered schema) whole ≡ Some class → ⊥
-      by_whole None e = none_is_some class e
-      by_whole (Some z) e =
-          true≢false (sym (found_passes (has_number z) schema.pieces class e)
-          ∙ ap (λ o. option_map_or (is_number z) o false) none)
-
   module _ (members : List Member) (class : Item) (number : ℕ) (is_object : as_object event ≡ Some members)
       (known : class_of schema members ≡ Some class)
       (is_number : class.class_uid ≡ Some number) (valid : IsValid event) where
@@ -587,7 +577,7 @@ module _ (schema : SchemaParts) (event : Tree)
       by_number : (members : List Member) (class : Item) (number : Option ℕ) → as_object event ≡ Some members
           → class_of schema members ≡ Some class
           → class.class_uid ≡ number → IsAllowed schema event
-      by_number members class None is known n = absurd (numbered members class known n)
+      by_number members class None is known n = absurd (class_has_number schema members class known n)
       by_number members class (Some number) is known n = allowed_with members class number is known n valid
 
       by_class : (members : List Member) (class : Option Item) → as_object event ≡ Some members

@@ -1,3 +1,4 @@
+pub mod Classes
 pub mod EventExamples
 pub mod AllowedEvents
 pub mod Stable

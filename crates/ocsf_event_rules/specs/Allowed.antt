@@ -1,9 +1,10 @@
 -- The events that a schema allows.
-use Rattle.std.specs.Prelude.{◌≡◌, ℕ, true, false, List, [], Contains, Some, IfSome, IsSome}
+use Rattle.std.specs.Prelude.{◌≡◌, ℕ, true, false, List, [], Contains, Some, IsSome}
 use Rattle.ocsf_tree.specs.declared.tree.Tree.{Tree}
 use Rattle.ocsf_tree.specs.declared.tree.Member.{Member}
 use Rattle.ocsf_schema.specs.declared.records.Attr.{Attr}
 use Rattle.ocsf_schema.specs.declared.records.Item.{Item}
+use Rattle.ocsf_schema.specs.declared.records.Kind.{Kind}
 use Rattle.ocsf_schema.specs.declared.records.Target.TheVariants as target
 use Rattle.ocsf_schema.specs.declared.parts.SchemaParts.{SchemaParts}
 use Rattle.ocsf_event_rules.specs.Profiles.{as_list, is_in_force, named_profiles}
@@ -37,12 +38,12 @@ module _ (schema : SchemaParts) (profiles : List (List ℕ)) where
           → ((one : Tree) → Contains values one → AcceptsSingle attr one) → Accepts attr value
 
     pub data AcceptsSingle : Attr → Tree → Type 0 where
-      OfKind : (attr : Attr) (value : Tree) (name : List ℕ) → attr.target ≡ target.Simple name
-          → IfSome (kind_named schema name) (λ kind. IsOfKind kind value) → IsOfEnumeration attr.members value
+      OfKind : (attr : Attr) (value : Tree) (name : List ℕ) (kind : Kind) → attr.target ≡ target.Simple name
+          → kind_named schema name ≡ Some kind → IsOfKind kind value → IsOfEnumeration attr.members value
           → AcceptsSingle attr value
-      OfObject : (attr : Attr) (value : Tree) (members : List Member) (name : List ℕ) → attr.target ≡ target.Object name
-          → as_object value ≡ Some members → ((item : Item) → item_named schema name ≡ Some item → Fits item members)
-          → AcceptsSingle attr value
+      OfObject : (attr : Attr) (value : Tree) (name : List ℕ) (item : Item) (members : List Member)
+          → attr.target ≡ target.Object name → item_named schema name ≡ Some item → as_object value ≡ Some members
+          → Fits item members → AcceptsSingle attr value
       OfAnything : (attr : Attr) (value : Tree) → attr.target ≡ target.Anything → IsSome (as_object value)
           → AcceptsSingle attr value
 

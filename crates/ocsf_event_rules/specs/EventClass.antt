@@ -1,7 +1,7 @@
 -- The class of an event, and what a schema has under a name.
-use Rattle.std.specs.Prelude.{ℕ, ℤ, pos, negsuc, ◌==◌, Bool, false, List, find, codes, Option, Some, None}
+use Rattle.std.specs.Prelude.{ℕ, ℤ, pos, negsuc, Bool, List, codes, Option, Some, None}
 use Rattle.std.specs.Prelude.{if◌then◌else◌}
-use Rattle.std.specs.Option.{option_map_or, option_and_then}
+use Rattle.std.specs.Option.{option_and_then}
 use Rattle.ocsf_tree.specs.declared.tree.Tree.{Tree, out-Tree}
 use Rattle.ocsf_tree.specs.declared.tree.Tree.TheOpen.{Tree-F}
 use Rattle.ocsf_tree.specs.declared.tree.Member.{Member}
@@ -13,6 +13,7 @@ use Rattle.ocsf_tree.specs.Lookup.{members_of, member_in}
 use Rattle.ocsf_schema.specs.declared.records.Attr.{Attr}
 use Rattle.ocsf_schema.specs.declared.records.Item.{Item}
 use Rattle.ocsf_schema.specs.declared.records.Kind.{Kind}
+use Rattle.ocsf_schema.specs.Lookups.{class_at}
 use Rattle.ocsf_schema.specs.declared.parts.SchemaParts.{SchemaParts}
 
 -- ---- what a value is
@@ -53,16 +54,10 @@ kind_named schema name = at_name (λ kind. kind.name) name schema.kinds
 abbrev pub attribute_named : Item → List ℕ → Option Attr
 attribute_named item name = at_name (λ attr. attr.name) name item.attrs
 
-abbrev pub is_number : ℤ → ℕ → Bool
-is_number (pos n) number = n == number
-is_number (negsuc n) number = false
-
--- a hidden class has no number
-abbrev pub has_number : ℤ → Item → Bool
-has_number whole item = option_map_or (is_number whole) item.class_uid false
-
+-- the class of that number; a hidden class has none
 abbrev pub class_numbered : SchemaParts → ℤ → Option Item
-class_numbered schema whole = find (has_number whole) schema.pieces
+class_numbered schema (pos number) = class_at number schema.pieces
+class_numbered schema (negsuc n) = None
 
 -- the class of an object: that of its `class_uid`
 abbrev pub class_of : SchemaParts → List Member → Option Item

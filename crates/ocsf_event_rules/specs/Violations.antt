@@ -1,6 +1,6 @@
 -- What is wrong with an event, and the report that lists just that.
 use Rattle.std.specs.Prelude.{◌≡◌, ◌≢◌, ◌↔◌, ℕ, ℤ, Bool, true, false, List, [], ◌∷◌, ◌++◌, codes, decimal, slice_get}
-use Rattle.std.specs.Prelude.{Contains, AllPairs, Option, Some, None, unwrap_or, IsSome, IsSomeAnd}
+use Rattle.std.specs.Prelude.{Contains, AllPairs, Option, Some, None, unwrap_or, IsSome, IsSomeAnd, ◌⊎◌}
 use Rattle.std.specs.Fmt.{signed_decimal}
 use Rattle.std.specs.List.{join_with_byte}
 use Rattle.std.specs.Option.{option_map, option_and_then}
@@ -20,7 +20,8 @@ use Rattle.ocsf_schema.specs.declared.parts.SchemaParts.{SchemaParts}
 use Rattle.ocsf_kind.specs.Accepted.{Meets}
 use Rattle.ocsf_kind.specs.declared.accepted.Which.TheVariants.{MaxLen, Range, Values}
 use Rattle.ocsf_event_rules.specs.Profiles.{as_list, as_text, profile_list, named_profiles, is_in_force, is_profile}
-use Rattle.ocsf_event_rules.specs.EventClass.{as_object, value_of, whole_of, kind_named, attribute_named, class_of}
+use Rattle.ocsf_event_rules.specs.EventClass.{as_object, value_of, whole_of, kind_named, item_named, attribute_named}
+use Rattle.ocsf_event_rules.specs.EventClass.{class_of}
 use Rattle.ocsf_event_rules.specs.Conditions.{IsOfBase, HasPattern, IsInstant, IsOfEnumeration, enum_key}
 use Rattle.ocsf_event_rules.specs.Conditions.{listed_in_force, HasOneOrMore, HasJustOne, expected_type, DoNumbersAgree}
 use Rattle.ocsf_event_rules.specs.Judged.{Judge, OfClass, OfAttribute, OfElement, Seen, ItemObject, single_attr}
@@ -32,11 +33,13 @@ use Rattle.ocsf_event_rules.specs.Wrong.{Violation, violation_cmp}
 
 -- ---- of a value
 
--- a single value isn't of the base, or isn't an object where one is wanted
+-- a single value isn't of the base, or isn't an object where one is wanted; nor is any value where the schema has no
+-- kind of that name, or no object
 abbrev pub IsWrongSingle : SchemaParts → Target → Tree → List ℕ → Type 0
 IsWrongSingle schema (target.Simple name) value detail =
-    IsSomeAnd (kind_named schema name) (λ kind. IsOfBase kind.base value → ⊥) × (detail ≡ name)
-IsWrongSingle schema (target.Object name) value detail = (as_object value ≡ None) × (detail ≡ codes "object_t")
+    (IsSomeAnd (kind_named schema name) (λ kind. IsOfBase kind.base value) → ⊥) × (detail ≡ name)
+IsWrongSingle schema (target.Object name) value detail =
+    ((item_named schema name ≡ None) ⊎ (as_object value ≡ None)) × (detail ≡ codes "object_t")
 IsWrongSingle schema target.Anything value detail = (as_object value ≡ None) × (detail ≡ codes "object_t")
 
 -- no list where one is wanted
