@@ -1,23 +1,15 @@
 -- An event with which nothing is wrong is allowed.
-use Rattle.std.proofs.Common.{◌≡◌, ℕ, zero, suc, ◌<◌, List, [], ◌∷◌, ◌++◌, length, map, Bool, true, false, true≢false}
+use Rattle.std.proofs.Common.{◌≡◌, ℕ, suc, ◌<◌, List, [], ◌∷◌, ◌++◌, length, Bool, true, false, true≢false}
 use Rattle.std.proofs.Common.{Option, Some, None, ◌⊎◌, inl, inr, refl, sym, ◌∙◌, ap, ap₂, subst, if◌then◌else◌}
 use Rattle.std.specs.List.{AllByRecursion, cons_option}
-use Rattle.std.specs.Ordering.{int_eq}
-use Rattle.std.proofs.lemmas.Bool.Decides.{Decides-int_eq}
 use Rattle.ocsf_event_rules.specs.EventLaws.{FaultlessIsAllowed}
 use Rattle.std.specs.Prelude.{ℤ, filter_map, Contains, IfSome, IsSome, IsSomeAnd, slice_get, slice_index_or}
 use Rattle.std.specs.Prelude.{is_some, codes}
 use Rattle.std.specs.Option.{option_map, option_and_then, option_map_or}
 use Rattle.std.proofs.lemmas.Option.{slice_get-get_or}
 use Rattle.std.proofs.lemmas.List.Elements.{Contains-get_or, All-from_recursion}
-use Rattle.ocsf_tree.specs.declared.tree.Tree.{Tree, out-Tree, roll-Tree, map-Tree, ind-Tree}
-use Rattle.ocsf_tree.specs.declared.tree.Tree.TheOpen.{Tree-F}
-use Rattle.ocsf_tree.specs.declared.tree.Tree.TheVariants as tree
-use Rattle.ocsf_tree.specs.declared.tree.Member.{Member, roll-Member}
-use Rattle.std.specs.Str.{bytes_eq}
-use Rattle.ocsf_tree.proofs.Valid.{item_valid, items_of_valid, member_valid, members_of_valid}
-use Rattle.ocsf_tree.proofs.WrittenOut.{out-Null, out-Flag, out-Whole, out-Words, out-List, out-Members}
-use Rattle.ocsf_tree.specs.Lookup.{items_of, members_of, member_in}
+use Rattle.ocsf_tree.specs.declared.tree.Tree.{Tree, out-Tree}
+use Rattle.ocsf_tree.specs.declared.tree.Member.{Member}
 use Rattle.ocsf_tree.specs.Valid.{IsValid}
 use Rattle.ocsf_tree.specs.declared.place.Step.{Step}
 use Rattle.ocsf_tree.specs.declared.place.Step.TheVariants.{At, Name}
@@ -35,7 +27,7 @@ use Rattle.ocsf_schema.specs.declared.records.Target.TheVariants as target
 use Rattle.ocsf_schema.specs.declared.parts.SchemaParts.{SchemaParts}
 use Rattle.ocsf_lists.specs.Among.{is_among}
 use Rattle.ocsf_event_rules.specs.Profiles.{as_list, as_text, profile_list, is_in_force, is_profile, named_profiles}
-use Rattle.ocsf_event_rules.specs.EventClass.{as_object, is_null, unless_null, value_of, item_named, kind_named}
+use Rattle.ocsf_event_rules.specs.EventClass.{as_object, value_of, item_named, kind_named}
 use Rattle.ocsf_event_rules.specs.EventClass.{attribute_named, class_of, class_of_event, whole_of}
 use Rattle.ocsf_event_rules.proofs.Classes.{class_has_number}
 use Rattle.ocsf_event_rules.specs.Allowed.{Fits, Open, Closed, FitsMember, Member_of, Accepts, Single, Each}
@@ -51,9 +43,12 @@ use Rattle.ocsf_event_rules.specs.Violations.{Missing, NoneOfThem, NotJustOne, N
 use Rattle.ocsf_event_rules.specs.Violations.{IsViolation, NoObject, NoClass, AtValue, AtMember, AtObject, OnEvent}
 use Rattle.ocsf_event_rules.specs.Judged.{Judge, OfClass, OfAttribute, OfElement, Seen, ItemObject, with_item}
 use Rattle.ocsf_event_rules.specs.Judged.{object_of, item_of, single_attr, object_seen, of_attribute, of_element}
-use Rattle.ocsf_event_rules.specs.Judged.{attribute_in_force, member_seen, element_seen, seen_at, seen_from, of_class}
+use Rattle.ocsf_event_rules.specs.Judged.{member_seen, seen_at, seen_from, of_class}
 use Rattle.ocsf_event_rules.specs.Judged.{seen}
-use Rattle.ocsf_event_rules.proofs.Stable as stable
+use Rattle.ocsf_event_rules.proofs.Listed.{holds}
+use Rattle.ocsf_event_rules.proofs.Decided as decided
+use Rattle.ocsf_event_rules.proofs.Children.{IsChild, by_children}
+use Rattle.ocsf_event_rules.proofs.Seen.{at, child_of}
 use Rattle.ocsf_event_rules.proofs.AllowedEvents.{none_is_some, some_is, IsGood, IsGoodSeen, picked, if_in_force}
 use Rattle.ocsf_event_rules.proofs.AllowedEvents.{if_array}
 
@@ -126,10 +121,10 @@ module _ (schema : SchemaParts) (event : Tree)
         (λ name value there. of_member name value (attribute_named object.item name) (λ e. no_list (sym is ∙ e)) refl
         there)
         (λ name attr named force wanted. required name attr (value_of name object.members) refl named force wanted)
-        (stable.one_or_more object.members (listed_in_force ps object.item object.item.at_least_one)
+        (holds (decided.one_or_more object.members (listed_in_force ps object.item object.item.at_least_one))
         (λ not. fine place at_least_one _
         (AtObject place here object at_least_one _ is_seen is_object (NoneOfThem not))))
-        (stable.just_one object.members (listed_in_force ps object.item object.item.just_one)
+        (holds (decided.just_one object.members (listed_in_force ps object.item object.item.just_one))
         (λ not. fine place just_one _ (AtObject place here object just_one _ is_seen is_object (NotJustOne not))))
       where
         no_list : a ∷ rest ≡ [] → ⊥
@@ -182,11 +177,11 @@ module _ (schema : SchemaParts) (event : Tree)
 
       meets : MeetsLimit limit own
       meets = record {
-        length = stable.within_length limit.max_len (out-Tree own) (within_length limit.max_len refl);
-        range = stable.within_range limit.range (out-Tree own) (within_range limit.range refl);
-        values = stable.listed limit.values own valid (λ not. unbroken (NotAValue not));
-        pattern = stable.found limit.pattern (out-Tree own) (λ not. unbroken (Pattern not));
-        instant = stable.instant limit.instant (out-Tree own) (λ not. unbroken (NotAnInstant not));
+        length = holds (decided.within_length limit.max_len (out-Tree own)) (within_length limit.max_len refl);
+        range = holds (decided.within_range limit.range (out-Tree own)) (within_range limit.range refl);
+        values = holds (decided.listed limit.values own valid) (λ not. unbroken (NotAValue not));
+        pattern = holds (decided.found limit.pattern (out-Tree own)) (λ not. unbroken (Pattern not));
+        instant = holds (decided.instant limit.instant (out-Tree own)) (λ not. unbroken (NotAnInstant not));
       }
 
     abbrev IsOfBaseOf : Option Kind → Type 0
@@ -201,7 +196,7 @@ module _ (schema : SchemaParts) (event : Tree)
     of_kind : (name : List ℕ) → attr.target ≡ target.Simple name → (kind : Kind) → kind_named schema name ≡ Some kind
         → IsOfKind kind own
     of_kind name is_simple kind is =
-        let base = stable.of_base kind.base own (λ not. has_base name is_simple (Some kind) is not) in (
+        let base = holds (decided.of_base kind.base own) (λ not. has_base name is_simple (Some kind) is not) in (
           base,
           λ k d lt. meets name is_simple kind is base (slice_index_or kind.limits k d)
               (Contains-get_or kind.limits k d lt),
@@ -223,7 +218,7 @@ module _ (schema : SchemaParts) (event : Tree)
     of_simple name is None none = absurd (has_base name is None none (λ x. x))
     of_simple name is (Some kind) is_kind =
         OfKind attr own name kind is is_kind (of_kind name is kind is_kind)
-        (stable.of_enumeration attr.members own (of_key (enum_key own) refl))
+        (holds (decided.of_enumeration attr.members own) (of_key (enum_key own) refl))
 
     no_object : (name : List ℕ) → attr.target ≡ target.Object name
         → (item_named schema name ≡ None) ⊎ (as_object own ≡ None) → ⊥
@@ -258,9 +253,6 @@ module _ (schema : SchemaParts) (event : Tree)
     accepts_single = by_target attr.target refl
 
   -- ---- whatever is seen is good
-
-  abbrev at : Judge → Tree → Seen
-  at judge value = record { judge = judge; value = value }
 
   accepts_list : (place : List Step) (attr : Attr) (value : Tree)
       → seen schema event place ≡ Some (of_attribute attr value) → attr.is_array ≡ true
@@ -329,73 +321,6 @@ module _ (schema : SchemaParts) (event : Tree)
       from_class None is = absurd (none_is_some here is)
       from_class (Some c) is = from_snoc place step (of_class event c) here next is e
 
-  -- a member of an object, or an item of a list
-  abbrev IsMember : Tree → Tree → Type 0
-  IsMember value child =
-      (name : List ℕ) × (members : List Member) × (as_object value ≡ Some members)
-      × (member_in name members ≡ Some child)
-
-  abbrev IsElement : Tree → Tree → Type 0
-  IsElement value child =
-      (k : ℕ) × (values : List Tree) × (as_list value ≡ Some values) × (slice_get values k ≡ Some child)
-
-  members_seen : (item : Option Item) (members : Option (List Member)) (object : ItemObject)
-      → option_and_then (λ i. option_map (with_item i) members) item ≡ Some object → members ≡ Some object.members
-  members_seen None members object e = absurd (none_is_some object e)
-  members_seen (Some i) None object e = absurd (none_is_some object e)
-  members_seen (Some i) (Some ms) object e = ap (λ o. Some (ItemObject.members o)) (some_is (with_item i ms) object e)
-
-  value_picked : (attr : Option Attr) (value : Option Tree) (next : Seen) → picked schema ps attr value ≡ Some next
-      → value ≡ Some next.value
-  value_picked None value next e = absurd (none_is_some next e)
-  value_picked (Some a) None next e = absurd (none_is_some next e)
-  value_picked (Some a) (Some v) next e = ap (λ s. Some (Seen.value s)) (some_is (of_attribute a v) next e)
-
-  not_null : (member : Option Tree) (value : Tree) → option_and_then unless_null member ≡ Some value
-      → member ≡ Some value
-  not_null None value e = absurd (none_is_some value e)
-  not_null (Some t) value e = by_null (is_null t) e
-    where
-      by_null : (b : Bool) → (if b then None else Some t) ≡ Some value → Some t ≡ Some value
-      by_null true e = absurd (none_is_some value e)
-      by_null false e = e
-
-  member_below : (name : List ℕ) (value : Tree) (object : Option ItemObject) (next : Seen)
-      → ((o : ItemObject) → object ≡ Some o → as_object value ≡ Some o.members)
-      → option_and_then (member_seen ps name) object ≡ Some next → IsMember value next.value
-  member_below name value None next is e = absurd (none_is_some next e)
-  member_below name value (Some o) next is e = (
-    name,
-    o.members,
-    is o refl,
-    not_null (member_in name o.members) next.value
-        (value_picked (attribute_in_force ps o.item name) (value_of name o.members) next e),
-  )
-
-  element_in : (attr : Attr) (k : ℕ) (value : Tree) (array : Bool) (values : Option (List Tree)) (next : Seen)
-      → as_list value ≡ values
-      → if_array schema ps array k attr values ≡ Some next → IsElement value next.value
-  element_in attr k value false values next is e = absurd (none_is_some next e)
-  element_in attr k value true None next is e = absurd (none_is_some next e)
-  element_in attr k value true (Some values) next is e = (k, values, is, at_place (slice_get values k) e)
-    where
-      at_place : (o : Option Tree) → option_map (of_element attr) o ≡ Some next → o ≡ Some next.value
-      at_place None e = absurd (none_is_some next e)
-      at_place (Some one) e = ap (λ s. Some (Seen.value s)) (some_is (of_element attr one) next e)
-
-  element_below : (k : ℕ) (judge : Judge) (value : Tree) (next : Seen) → element_seen k (at judge value) ≡ Some next
-      → IsElement value next.value
-  element_below k (OfClass class) value next e = absurd (none_is_some next e)
-  element_below k (OfElement attr) value next e = absurd (none_is_some next e)
-  element_below k (OfAttribute attr) value next e = element_in attr k value attr.is_array (as_list value) next refl e
-
-  child_of : (step : Step) (here next : Seen) → seen_at schema ps step here ≡ Some next
-      → IsMember here.value next.value ⊎ IsElement here.value next.value
-  child_of (Name name) here next e =
-      inl (member_below name here.value (object_seen schema here) next
-      (λ o is. members_seen (item_of schema here.judge) (as_object here.value) o is) e)
-  child_of (At k) here next e = inr (element_below k here.judge here.value next e)
-
   -- ---- all the way down
 
   abbrev IsGoodAnywhere : Tree → Type 0
@@ -404,99 +329,15 @@ module _ (schema : SchemaParts) (event : Tree)
       → IsGood schema ps judge value
 
   from_children : (value : Tree)
-      → ((child : Tree) → IsValid value → IsMember value child ⊎ IsElement value child
+      → ((step : Step) (child : Tree) → IsValid value → IsChild value step child
       → IsValid child × IsGoodAnywhere child) → IsGoodAnywhere value
   from_children value children valid place judge is_seen =
       good_here place judge value is_seen valid (λ step next e.
-      let child = children next.value valid (child_of step (at judge value) next e) in
+      let child = children step next.value valid (child_of schema ps step (at judge value) next e) in
       child.1 child.0 (place ++ step ∷ []) next.judge (seen_snoc place step (at judge value) next is_seen e))
 
-  abbrev GoodTree : Type 0
-  GoodTree = (t : Tree) × IsGoodAnywhere t
-
-  abbrev GoodMember : Type 0
-  GoodMember = (m : Member) × IsGoodAnywhere m.value
-
-  good_item : (ts : List GoodTree) (k : ℕ) (child : Tree) → slice_get (map (λ t. t.0) ts) k ≡ Some child
-      → IsGoodAnywhere child
-  good_item [] k child e = absurd (none_is_some child e)
-  good_item (t ∷ ts) zero child e = subst IsGoodAnywhere (some_is t.0 child e) t.1
-  good_item (t ∷ ts) (suc k) child e = good_item ts k child e
-
-  good_member : (ms : List GoodMember) (name : List ℕ) (child : Tree) → member_in name (map (λ m. m.0) ms) ≡ Some child
-      → IsGoodAnywhere child
-  good_member [] name child e = absurd (none_is_some child e)
-  good_member (m ∷ ms) name child e = by_name (bytes_eq m.0.name name) (λ e. good_member ms name child e) e
-    where
-      by_name : (b : Bool) → (member_in name (map (λ m. m.0) ms) ≡ Some child → IsGoodAnywhere child)
-          → (if b then Some m.0.value else member_in name (map (λ m. m.0) ms)) ≡ Some child → IsGoodAnywhere child
-      by_name true rest e = subst IsGoodAnywhere (some_is m.0.value child e) m.1
-      by_name false rest e = rest e
-
-  abbrev bare : Tree-F GoodTree GoodMember → Tree-F Tree Member
-  bare y = map-Tree GoodTree GoodMember Tree Member (λ e. e.0) (λ e. e.0) y
-
-  valid_of : (o : Option Tree) (child : Tree) → IfSome o IsValid → o ≡ Some child → IsValid child
-  valid_of None child v e = absurd (none_is_some child e)
-  valid_of (Some t) child v e = subst IsValid (some_is t child e) v
-
-  no_member : (value child : Tree) → as_object value ≡ None → IsMember value child → ⊥
-  no_member value child none m = none_is_some m.1 (sym none ∙ m.2)
-
-  no_element : (value child : Tree) → as_list value ≡ None → IsElement value child → ⊥
-  no_element value child none m = none_is_some m.1 (sym none ∙ m.2)
-
-  neither : (value child : Tree) → as_object value ≡ None → as_list value ≡ None
-      → IsMember value child ⊎ IsElement value child → ⊥
-  neither value child no_members no_values c =
-      elim c [ inl m ↦ no_member value child no_members m | inr m ↦ no_element value child no_values m ]
-
-  good_layer : (y : Tree-F GoodTree GoodMember) → IsGoodAnywhere (roll-Tree (bare y))
-  unfolding roll-Tree denote.Hole.Carrier.roll
-  good_layer Tree-F.Null =
-      from_children tree.Null
-      (λ child valid c.
-      absurd (neither tree.Null child (ap members_of out-Null) (ap items_of out-Null) c))
-  good_layer (Tree-F.Flag b) =
-      from_children (tree.Flag b)
-      (λ child valid c.
-      absurd (neither (tree.Flag b) child (ap members_of (out-Flag b)) (ap items_of (out-Flag b)) c))
-  good_layer (Tree-F.Whole z) =
-      from_children (tree.Whole z)
-      (λ child valid c.
-      absurd (neither (tree.Whole z) child (ap members_of (out-Whole z)) (ap items_of (out-Whole z)) c))
-  good_layer (Tree-F.Words t) =
-      from_children (tree.Words t)
-      (λ child valid c.
-      absurd (neither (tree.Words t) child (ap members_of (out-Words t)) (ap items_of (out-Words t)) c))
-  good_layer (Tree-F.List ts) = from_children (tree.List (map (λ t. t.0) ts)) (λ child valid c. elim c [
-    | inl m ↦ absurd (no_member (tree.List (map (λ t. t.0) ts)) child (ap members_of (out-List (map (λ t. t.0) ts))) m)
-    | inr m ↦
-        let same : slice_get (map (λ t. t.0) ts) m.0 ≡ Some child =
-        subst (λ xs. slice_get xs m.0 ≡ Some child)
-        (some_is m.1 (map (λ t. t.0) ts) (sym m.2 ∙ ap items_of (out-List (map (λ t. t.0) ts)))) m.3 in (
-          valid_of (slice_get (map (λ t. t.0) ts) m.0) child
-              (item_valid (map (λ t. t.0) ts) m.0 (items_of_valid (map (λ t. t.0) ts) valid)) same,
-          good_item ts m.0 child same,
-        )
-  ])
-  good_layer (Tree-F.Members ms) = from_children (tree.Members (map (λ m. m.0) ms)) (λ child valid c. elim c [
-    | inr m ↦
-        absurd (no_element (tree.Members (map (λ m. m.0) ms)) child (ap items_of (out-Members (map (λ m. m.0) ms))) m)
-    | inl m ↦
-        let same : member_in m.0 (map (λ m. m.0) ms) ≡ Some child =
-        subst (λ xs. member_in m.0 xs ≡ Some child)
-        (some_is m.1 (map (λ m. m.0) ms) (sym m.2 ∙ ap members_of (out-Members (map (λ m. m.0) ms)))) m.3 in (
-          valid_of (member_in m.0 (map (λ m. m.0) ms)) child
-              (member_valid m.0 (map (λ m. m.0) ms) (members_of_valid (map (λ m. m.0) ms) valid)) same,
-          good_member ms m.0 child same,
-        )
-  ])
-
   good_value : (value : Tree) → IsGoodAnywhere value
-  good_value = ind-Tree IsGoodAnywhere (λ m. IsGoodAnywhere m.value)
-      (λ x y is. subst (λ z. IsGoodAnywhere (roll-Tree z)) is (good_layer y))
-      (λ x y is. subst (λ z. IsGoodAnywhere (roll-Member z).value) is y.value.1)
+  good_value = by_children IsGoodAnywhere from_children
 
   -- ---- the event
 
@@ -516,24 +357,20 @@ module _ (schema : SchemaParts) (event : Tree)
     of_event {place} {code} {detail} wrong =
         fine place code detail (OnEvent members class number place code detail is_object known is_number wrong)
 
-    same_whole : (y z : ℤ) → stable.IsStable (y ≡ z)
-    same_whole y z h =
-        (Decides-int_eq y z).0 (stable.same_test (int_eq y z) true (λ e. h (λ is. e ((Decides-int_eq y z).1 is))))
-
-    agrees_at : (given activity : Option ℤ) → whole_of (codes "type_uid") members ≡ given
-        → whole_of (codes "activity_id") members ≡ activity
-        → IfSome given (λ g. IfSome activity (λ a. g ≡ expected_type number a))
-    agrees_at None activity x y = tt
-    agrees_at (Some g) None x y = tt
-    agrees_at (Some g) (Some a) x y =
-        same_whole g (expected_type number a) (λ not.
-        of_event (NumberMismatch a y (λ agrees.
-        not (subst (λ o. IfSome o (λ a. g ≡ expected_type number a)) y
-        (subst (λ o. IfSome o (λ g. IfSome (whole_of (codes "activity_id") members) (λ a. g ≡ expected_type number a)))
-        x agrees)))))
-
     agrees : DoNumbersAgree number members
-    agrees = agrees_at (whole_of (codes "type_uid") members) (whole_of (codes "activity_id") members) refl refl
+    agrees =
+        holds (decided.numbers_agree number members)
+        (λ not. by_activity (whole_of (codes "activity_id") members) refl not)
+      where
+        by_activity : (activity : Option ℤ) → whole_of (codes "activity_id") members ≡ activity
+            → (DoNumbersAgree number members → ⊥) → ⊥
+        by_activity (Some activity) is not = of_event (NumberMismatch activity is not)
+        by_activity None is not = not (none_given (whole_of (codes "type_uid") members))
+          where
+            none_given : (given : Option ℤ)
+                → IfSome given (λ g. IfSome (whole_of (codes "activity_id") members) (λ a. g ≡ expected_type number a))
+            none_given None = tt
+            none_given (Some g) = subst (λ o. IfSome o (λ a. g ≡ expected_type number a)) (sym is) tt
 
     each_named : (P : List ℕ → Type 0) (items : List Tree)
         → ((k : ℕ) (text : List ℕ) → option_and_then as_text (slice_get items k) ≡ Some text → P text)

@@ -1,7 +1,12 @@
 pub mod Classes
 pub mod EventExamples
 pub mod AllowedEvents
-pub mod Stable
+pub mod Listed
+pub mod Decided
+pub mod Children
+pub mod Seen
 pub mod FaultlessEvents
 pub mod EmptyReports
 pub mod OneReport
+pub mod InOrder
+pub mod SomeReport

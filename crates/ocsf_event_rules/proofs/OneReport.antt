@@ -9,13 +9,13 @@ use Rattle.ocsf_tree.proofs.Places.{place_cmp_total}
 use Rattle.ocsf_event_rules.specs.EventLaws.{HasOneReport}
 use Rattle.ocsf_event_rules.specs.Wrong.{Violation, violation_cmp}
 
-violation_cmp_total : IsTotalOrder violation_cmp
+pub violation_cmp_total : IsTotalOrder violation_cmp
 violation_cmp_total =
     then_total (on_total (λ (v : Violation). v.place) place_cmp_total)
     (then_total (on_total (λ (v : Violation). v.code) nat_cmp_total)
     (on_total (λ (v : Violation). v.detail) nat_list_cmp_total))
 
-abbrev IsBefore : Violation → Violation → Type 0
+abbrev pub IsBefore : Violation → Violation → Type 0
 IsBefore v w = violation_cmp v w ≡ Less
 
 not_itself : (v : Violation) → IsBefore v v → ⊥
@@ -28,13 +28,13 @@ not_both : (v w : Violation) → IsBefore v w → IsBefore w v → ⊥
 not_both v w x y = not_itself v (violation_cmp_total.trans v w v x y)
 
 -- strictly in order
-abbrev IsOrdered : List Violation → Type 0
+abbrev pub IsOrdered : List Violation → Type 0
 IsOrdered vs = AllPairs IsBefore vs
 
-before_rest : (v : Violation) (vs : List Violation) → IsOrdered (v ∷ vs) → All (IsBefore v) vs
+pub before_rest : (v : Violation) (vs : List Violation) → IsOrdered (v ∷ vs) → All (IsBefore v) vs
 before_rest v vs ordered = λ k d h. ordered 0 (suc k) d (omega arith) (omega arith)
 
-rest_ordered : (v : Violation) (vs : List Violation) → IsOrdered (v ∷ vs) → IsOrdered vs
+pub rest_ordered : (v : Violation) (vs : List Violation) → IsOrdered (v ∷ vs) → IsOrdered vs
 rest_ordered v vs ordered = λ i j d h k. ordered (suc i) (suc j) d (omega arith) (omega arith)
 
 head_or_rest : (v w : Violation) (vs : List Violation) → Contains (v ∷ vs) w → (v ≡ w) ⊎ Contains vs w

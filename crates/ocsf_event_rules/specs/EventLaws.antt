@@ -29,3 +29,8 @@ abbrev pub HasOneReport : Type 0
 HasOneReport =
     (schema : SchemaParts) (event : Tree) (r s : List Violation) → IsReport schema event r → IsReport schema event s
     → r ≡ s
+
+-- and every event has a report
+abbrev pub HasSomeReport : Type 0
+HasSomeReport = (schema : SchemaParts) (event : Tree) → IsValid event
+    → (report : List Violation) × IsReport schema event report

@@ -1,6 +1,6 @@
 // What holds of every schema and event. The functions do nothing: each contract is a law.
 ghost use Rattle.ocsf_event_rules.specs.EventLaws.{AllowedIsFaultless, FaultlessIsAllowed, ReportIsEmptyWhereAllowed};
-ghost use Rattle.ocsf_event_rules.specs.EventLaws.{HasOneReport};
+ghost use Rattle.ocsf_event_rules.specs.EventLaws.{HasOneReport, HasSomeReport};
 
 /// Nothing is wrong with an event that is allowed.
 pub fn an_allowed_event_has_no_violation()
@@ -20,4 +20,9 @@ pub fn a_report_is_empty_where_the_event_is_allowed()
 /// An event has one report.
 pub fn an_event_has_one_report()
     ensures { HasOneReport }
+{}
+
+/// Every event has a report.
+pub fn an_event_has_some_report()
+    ensures { HasSomeReport }
 {}

@@ -6,5 +6,5 @@ mod event_laws;
 
 pub use event_laws::{
     a_report_is_empty_where_the_event_is_allowed, an_allowed_event_has_no_violation,
-    an_event_has_one_report, an_event_without_violations_is_allowed,
+    an_event_has_one_report, an_event_has_some_report, an_event_without_violations_is_allowed,
 };
