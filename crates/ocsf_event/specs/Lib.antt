@@ -1,0 +1,7 @@
+pub mod Gains
+pub mod Code
+pub mod ByCode
+pub mod Walk
+pub mod Answer
+pub mod InOrder
+pub mod ViolationOrder

@@ -1,0 +1,168 @@
+// The report of an event.
+ghost use Rattle.std.specs.Prelude.{◌≡◌, ◌∷◌, ◌++◌, [], IfOk, OnOk, map, Some};
+ghost use Rattle.std.specs.Option.{option_copied, option_and_then, IfSome};
+ghost use Rattle.ocsf_tree.specs.Valid.{IsValid, IsValidMembers};
+ghost use Rattle.ocsf_tree.specs.declared.place.Step.TheVariants.{Name};
+ghost use Rattle.ocsf_schema.specs.Lookups.{IsInOrder};
+ghost use Rattle.ocsf_event.specs.Gains.{Gains};
+ghost use Rattle.ocsf_event_rules.specs.Profiles.{named_profiles, as_text, as_list};
+ghost use Rattle.ocsf_tree.specs.Lookup.{member_at};
+ghost use Rattle.std.specs.List.{filter_map};
+ghost use Rattle.ocsf_event_rules.specs.EventClass.{as_object, class_numbered, class_of, whole_of};
+ghost use Rattle.ocsf_event.specs.Code.{told_violation};
+ghost use Rattle.ocsf_event_rules.specs.Violations.{IsReport, whole_text};
+ghost use Rattle.ocsf_event.specs.Walk.{IsWrong, IsAmiss, IsSmall};
+
+use crate::members::whole_at;
+use crate::order::in_order;
+use crate::violation::{Violation, Wrong, note};
+use crate::walk::judge_object;
+use crate::whole::{at_root, judge_event, profile_list, root};
+use ocsf_pattern::Patterns;
+use ocsf_schema::{Item, Schema};
+use ocsf_tree::{Member, Place, Row, Step, Text, Tree};
+use std::alloc::{AllocError, Global};
+
+fn class_numbered(schema: &Schema, whole: i128) -> Option<&Item>
+    requires { IsSmall whole }
+    ensures class { option_copied result ≡ class_numbered schema.now whole }
+    ensures order { IfSome result (λ item. IsInOrder item.now) }
+{
+    if whole < 0 {
+        None
+    } else {
+        schema.class_by_uid(whole as u64)
+    }
+}
+
+/// The class of an object: that of its `class_uid`.
+fn class_of<'a>(schema: &'a Schema, members: &[Member]) -> Option<&'a Item>
+    requires { IsValidMembers members.now }
+    ensures class { option_copied result ≡ class_of schema.now members.now }
+    ensures order { IfSome result (λ item. IsInOrder item.now) }
+{
+    match whole_at(members, "class_uid") {
+        Some(whole) => class_numbered(schema, whole),
+        None => None,
+    }
+}
+
+fn whole_text(alloc: Global, whole: Option<i128>) -> Result<Text, AllocError>
+    ensures { IfOk result (λ made. made ≡ whole_text whole) }
+{
+    match whole {
+        Some(whole) => Text::from_string(whole.to_string(alloc)?),
+        None => Text::of(alloc, ""),
+    }
+}
+
+fn push_text(made: &mut Row<Text>, item: &Tree) -> Result<(), AllocError>
+    ensures { OnOk result (made.new ≡ made.old ++ filter_map as_text (item.now ∷ [])) }
+{
+    match item {
+        Tree::Words(text) => made.push(text.copy()?),
+        _ => Ok(()),
+    }
+}
+
+fn texts_of(alloc: Global, items: &[Tree]) -> Result<Row<Text>, AllocError>
+    ensures { IfOk result (λ made. made ≡ filter_map as_text items.now) }
+{
+    let mut made = Row::new(alloc);
+    for item in items {
+        push_text(&mut made, item)?;
+    }
+    Ok(made)
+}
+
+/// The profiles that the event names.
+fn profiles_of(alloc: Global, event: &Tree) -> Result<Row<Text>, AllocError>
+    requires { IsValid event.now }
+    ensures { IfOk result (λ made. made ≡ named_profiles event.now) }
+{
+    match profile_list(event) {
+        Some(items) => texts_of(alloc, items.as_slice()),
+        None => Ok(Row::new(alloc)),
+    }
+}
+
+fn judge_class(
+    alloc: Global,
+    schema: &Schema,
+    patterns: &mut Patterns,
+    event: &Tree,
+    class: &Item,
+    members: &[Member],
+    found: &mut Row<Violation>,
+) -> Result<(), AllocError>
+    requires valid { IsValid event.now }
+    requires order { IsInOrder class.now }
+    requires object { as_object event.now ≡ Some members.now }
+    requires class { class_of schema.now members.now ≡ Some class.now }
+    ensures { OnOk result (Gains (IsWrong schema.now event.now) found.old found.new) }
+{
+    let profiles = profiles_of(alloc, event)?;
+    judge_object(
+        schema,
+        profiles.as_slice(),
+        patterns,
+        class,
+        members,
+        &root(alloc),
+        found,
+    )?;
+    match class.class_uid {
+        Some(number) => judge_event(schema, event, number, members, found),
+        None => Ok(()),
+    }
+}
+
+fn judge(
+    alloc: Global,
+    schema: &Schema,
+    patterns: &mut Patterns,
+    event: &Tree,
+    found: &mut Row<Violation>,
+) -> Result<(), AllocError>
+    requires { IsValid event.now }
+    ensures { OnOk result (Gains (IsWrong schema.now event.now) found.old found.new) }
+{
+    match event {
+        Tree::Members(members) => match class_of(schema, members.as_slice()) {
+            Some(class) => judge_class(
+                alloc,
+                schema,
+                patterns,
+                event,
+                class,
+                members.as_slice(),
+                found,
+            ),
+            None => {
+                let detail = whole_text(alloc, whole_at(members.as_slice(), "class_uid"))?;
+                note(
+                    found,
+                    at_root(alloc, "class_uid")?,
+                    Wrong::ClassUnknown,
+                    detail.as_str(),
+                )
+            }
+        },
+        _ => note(found, root(alloc), Wrong::WrongType, "object_t"),
+    }
+}
+
+/// What is wrong with the event, in order.
+pub fn report(
+    alloc: Global,
+    schema: &Schema,
+    event: &Tree,
+    patterns: &mut Patterns,
+) -> Result<Row<Violation>, AllocError>
+    requires { IsValid event.now }
+    ensures { IfOk result (λ made. IsReport schema.now event.now (map told_violation made)) }
+{
+    let mut found = Row::new(alloc);
+    judge(alloc, schema, patterns, event, &mut found)?;
+    in_order(alloc, found)
+}
