@@ -13,7 +13,8 @@ use Rattle.ocsf_kind.specs.Accepted.{Meets}
 use Rattle.ocsf_kind.specs.declared.accepted.Which.TheVariants.{MaxLen, Range, Values}
 use Rattle.ocsf_event_rules.specs.Profiles.{is_in_force}
 use Rattle.ocsf_event_rules.specs.EventClass.{value_of, kind_named, attribute_named}
-use Rattle.ocsf_event_rules.specs.Conditions.{IsOfBase, HasPattern, IsInstant, listed_in_force, HasOneOrMore, HasJustOne}
+use Rattle.ocsf_event_rules.specs.Conditions.{IsOfBase, HasPattern, IsInstant, listed_in_force, HasOneOrMore}
+use Rattle.ocsf_event_rules.specs.Conditions.{HasJustOne}
 use Rattle.ocsf_event_rules.specs.Judged.{Seen, ItemObject, single_attr}
 use Rattle.ocsf_event_rules.specs.Violations.{IsWrongType, IsNoKey, span_text, comma}
 use Rattle.ocsf_event.specs.declared.violation.Wrong.{Wrong}

@@ -1,5 +1,6 @@
 -- For private clauses: what is wrong with a value and below it, step by step.
-use Rattle.std.specs.Prelude.{◌≡◌, ◌≢◌, ℕ, ℤ, pos, negsuc, ◌<◌, ◌^◌, Bool, true, false, List, [], ◌∷◌, ◌++◌, Option, Some, None, ⊤, ◌⊎◌, codes}
+use Rattle.std.specs.Prelude.{◌≡◌, ◌≢◌, ℕ, ℤ, pos, negsuc, ◌<◌, ◌^◌, Bool, true, false, List, [], ◌∷◌, ◌++◌, Option}
+use Rattle.std.specs.Prelude.{Some, None, ⊤, ◌⊎◌, codes}
 use Rattle.std.specs.Fmt.{signed_decimal}
 use Rattle.ocsf_tree.specs.declared.tree.Tree.{Tree}
 use Rattle.ocsf_tree.specs.declared.tree.Member.{Member}
@@ -12,13 +13,16 @@ use Rattle.ocsf_schema.specs.declared.records.Target.{Target}
 use Rattle.ocsf_schema.specs.declared.records.Target.TheVariants as target
 use Rattle.ocsf_schema.specs.declared.parts.SchemaParts.{SchemaParts}
 use Rattle.ocsf_event.specs.declared.violation.Wrong.{Wrong}
-use Rattle.ocsf_event.specs.declared.violation.Wrong.TheVariants.{AttributeUnknown, ProfileInactive, RequiredMissing, EnumUnknown, AtLeastOne, JustOne, NumberMismatch, ProfileUnknown}
+use Rattle.ocsf_event.specs.declared.violation.Wrong.TheVariants.{AttributeUnknown, ProfileInactive, RequiredMissing}
+use Rattle.ocsf_event.specs.declared.violation.Wrong.TheVariants.{EnumUnknown, AtLeastOne, JustOne, NumberMismatch}
+use Rattle.ocsf_event.specs.declared.violation.Wrong.TheVariants.{ProfileUnknown}
 use Rattle.ocsf_event.specs.declared.violation.Violation.{Violation}
 use Rattle.ocsf_event_rules.specs.Profiles.{is_in_force, as_text, profile_list, is_profile}
 use Rattle.ocsf_event_rules.specs.EventClass.{is_null, as_object, value_of, whole_of, item_named, attribute_named}
 use Rattle.ocsf_schema.specs.declared.records.Limit.{Limit}
 use Rattle.ocsf_event_rules.specs.Conditions.{IsOfEnumeration, enum_key, expected_type, DoNumbersAgree}
-use Rattle.ocsf_event_rules.specs.Judged.{Seen, ItemObject, with_item, object_seen, member_seen, seen_at, of_attribute, of_element}
+use Rattle.ocsf_event_rules.specs.Judged.{Seen, ItemObject, with_item, object_seen, member_seen, seen_at}
+use Rattle.ocsf_event_rules.specs.Judged.{of_attribute, of_element}
 use Rattle.ocsf_event_rules.specs.Violations.{IsViolation, profile_place}
 use Rattle.ocsf_event.specs.Code.{rank}
 use Rattle.ocsf_event.specs.ByCode.{IsWrongValue, IsWrongMember, IsWrongObject, IsLimitBroken}
@@ -40,29 +44,39 @@ pub record IsThis (place : List Step) (c : Wrong) (detail : List ℕ) (v : Viola
 module _ (schema : SchemaParts) (profiles : List (List ℕ)) where
   -- of a value that is seen at that place
   pub data IsWithin : Seen → List Step → Violation → Type 0 where
-    Here : (here : Seen) (place : List Step) (v : Violation) → v.place.steps ≡ place → IsWrongValue schema here v.code v.detail → IsWithin here place v
-    OfMember : (here : Seen) (place : List Step) (v : Violation) (object : ItemObject) (name : List ℕ) → object_seen schema here ≡ Some object
-        → v.place.steps ≡ at_name_below place name → IsWrongMember profiles object name v.code v.detail → IsWithin here place v
-    OfObject : (here : Seen) (place : List Step) (v : Violation) (object : ItemObject) → object_seen schema here ≡ Some object
+    Here : (here : Seen) (place : List Step) (v : Violation) → v.place.steps ≡ place
+        → IsWrongValue schema here v.code v.detail → IsWithin here place v
+    OfMember : (here : Seen) (place : List Step) (v : Violation) (object : ItemObject) (name : List ℕ)
+        → object_seen schema here ≡ Some object
+        → v.place.steps ≡ at_name_below place name → IsWrongMember profiles object name v.code v.detail
+        → IsWithin here place v
+    OfObject : (here : Seen) (place : List Step) (v : Violation) (object : ItemObject)
+        → object_seen schema here ≡ Some object
         → v.place.steps ≡ place → IsWrongObject profiles object v.code v.detail → IsWithin here place v
-    Deeper : (here : Seen) (place : List Step) (v : Violation) (step : Step) (next : Seen) → seen_at schema profiles step here ≡ Some next
+    Deeper : (here : Seen) (place : List Step) (v : Violation) (step : Step) (next : Seen)
+        → seen_at schema profiles step here ≡ Some next
         → IsWithin next (place ++ step ∷ []) v → IsWithin here place v
 
   -- of an object that an item judges
   pub data InObject (object : ItemObject) (place : List Step) (v : Violation) : Type 0 where
-    AtMember : (name : List ℕ) → v.place.steps ≡ at_name_below place name → IsWrongMember profiles object name v.code v.detail → InObject object place v
+    AtMember : (name : List ℕ) → v.place.steps ≡ at_name_below place name
+        → IsWrongMember profiles object name v.code v.detail → InObject object place v
     AtObject : v.place.steps ≡ place → IsWrongObject profiles object v.code v.detail → InObject object place v
-    BelowMember : (name : List ℕ) (next : Seen) → member_seen profiles name object ≡ Some next → IsWithin next (at_name_below place name) v → InObject object place v
+    BelowMember : (name : List ℕ) (next : Seen) → member_seen profiles name object ≡ Some next
+        → IsWithin next (at_name_below place name) v → InObject object place v
 
   -- of the value of an attribute
   pub data InKnown (attr : Attr) (value : Tree) (place : List Step) (v : Violation) : Type 0 where
-    Off : (profile : List ℕ) → is_in_force profiles attr ≡ false → attr.profile ≡ Some profile → IsThis place ProfileInactive profile v → InKnown attr value place v
+    Off : (profile : List ℕ) → is_in_force profiles attr ≡ false → attr.profile ≡ Some profile
+        → IsThis place ProfileInactive profile v → InKnown attr value place v
     On : is_in_force profiles attr ≡ true → IsWithin (of_attribute attr value) place v → InKnown attr value place v
 
   -- of one member
   pub data InMember (item : Item) (place : List Step) (m : Member) (v : Violation) : Type 0 where
-    Unknown : is_null m.value ≡ false → item.attrs ≢ [] → attribute_named item m.name ≡ None → IsThis (at_name_below place m.name) AttributeUnknown [] v → InMember item place m v
-    Known : (attr : Attr) → is_null m.value ≡ false → attribute_named item m.name ≡ Some attr → InKnown attr m.value (at_name_below place m.name) v → InMember item place m v
+    Unknown : is_null m.value ≡ false → item.attrs ≢ [] → attribute_named item m.name ≡ None
+        → IsThis (at_name_below place m.name) AttributeUnknown [] v → InMember item place m v
+    Known : (attr : Attr) → is_null m.value ≡ false → attribute_named item m.name ≡ Some attr
+        → InKnown attr m.value (at_name_below place m.name) v → InMember item place m v
 
   abbrev pub InMembers : Item → List Step → List Member → Violation → Type 0
   InMembers item place members v = Each (λ i m. InMember item place m) members v
@@ -75,7 +89,8 @@ module _ (schema : SchemaParts) (profiles : List (List ℕ)) where
   InItems attr place items v = Each (InItem attr place) items v
 
 -- an attribute that has to be there and isn't
-pub record IsMissing (profiles : List (List ℕ)) (members : List Member) (place : List Step) (attr : Attr) (v : Violation) : Type 0 where
+pub record IsMissing (profiles : List (List ℕ)) (members : List Member) (place : List Step) (attr : Attr)
+    (v : Violation) : Type 0 where
   pub absent : value_of attr.name members ≡ None
   pub in_force : is_in_force profiles attr ≡ true
   pub required : attr.requirement ≡ Required
@@ -149,10 +164,14 @@ abbrev pub InLimits : List Limit → Tree → List Step → Violation → Type 0
 InLimits limits value place v = Each (λ i limit. InLimit limit value place) limits v
 
 abbrev pub IsNoKeyHere : Attr → Tree → List Step → Violation → Type 0
-IsNoKeyHere attr value place v = (v.place.steps ≡ place) × (v.code ≡ EnumUnknown) × (IsOfEnumeration attr.members value → ⊥) × (enum_key value ≡ Some v.detail)
+IsNoKeyHere attr value place v =
+    (v.place.steps ≡ place) × (v.code ≡ EnumUnknown) × (IsOfEnumeration attr.members value → ⊥)
+    × (enum_key value ≡ Some v.detail)
 
 abbrev pub IsTooFew : List (List ℕ) → ItemObject → List Step → Violation → Type 0
-IsTooFew profiles object place v = (v.place.steps ≡ place) × (v.code ≡ AtLeastOne) × IsWrongObject profiles object AtLeastOne v.detail
+IsTooFew profiles object place v = (v.place.steps ≡ place) × (v.code ≡ AtLeastOne)
+    × IsWrongObject profiles object AtLeastOne v.detail
 
 abbrev pub IsNotOne : List (List ℕ) → ItemObject → List Step → Violation → Type 0
-IsNotOne profiles object place v = (v.place.steps ≡ place) × (v.code ≡ JustOne) × IsWrongObject profiles object JustOne v.detail
+IsNotOne profiles object place v = (v.place.steps ≡ place) × (v.code ≡ JustOne)
+    × IsWrongObject profiles object JustOne v.detail

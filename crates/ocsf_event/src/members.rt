@@ -181,7 +181,8 @@ fn judge_at_least(
     found: &mut Row<Violation>,
 ) -> Result<(), AllocError>
     requires valid { IsValidMembers members.now }
-    ensures { OnOk result (Gains (IsTooFew profiles.now (with_item item.now members.now) place.now.steps) found.old found.new) }
+    ensures { OnOk result (Gains (IsTooFew profiles.now (with_item item.now members.now) place.now.steps)
+        found.old found.new) }
 {
     let names = item.at_least_one.as_slice();
     if count_listed(profiles, item, names) == 0 || count_given(profiles, item, names, members) > 0 {
@@ -204,7 +205,8 @@ fn judge_just_one(
     found: &mut Row<Violation>,
 ) -> Result<(), AllocError>
     requires valid { IsValidMembers members.now }
-    ensures { OnOk result (Gains (IsNotOne profiles.now (with_item item.now members.now) place.now.steps) found.old found.new) }
+    ensures { OnOk result (Gains (IsNotOne profiles.now (with_item item.now members.now) place.now.steps)
+        found.old found.new) }
 {
     let names = item.just_one.as_slice();
     if count_listed(profiles, item, names) == 0
@@ -225,7 +227,8 @@ pub(crate) fn judge_whole(
     found: &mut Row<Violation>,
 ) -> Result<(), AllocError>
     requires valid { IsValidMembers members.now }
-    ensures { OnOk result (Gains (IsWrongWhole profiles.now (with_item item.now members.now) place.now.steps) found.old found.new) }
+    ensures { OnOk result (Gains (IsWrongWhole profiles.now (with_item item.now members.now) place.now.steps)
+        found.old found.new) }
 {
     judge_at_least(profiles, item, members, place, found)?;
     judge_just_one(profiles, item, members, place, found)

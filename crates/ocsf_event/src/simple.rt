@@ -256,7 +256,8 @@ pub(crate) fn judge_simple(
 ) -> Result<(), AllocError>
     requires valid { IsValid value.now }
     requires named { attr.now.target ≡ target.Simple name.now }
-    ensures { OnOk result (Gains (IsWrongHere schema.now (of_element attr.now value.now) place.now.steps) found.old found.new) }
+    ensures { OnOk result (Gains (IsWrongHere schema.now (of_element attr.now value.now) place.now.steps)
+        found.old found.new) }
 {
     match schema.kind(name) {
         Some(kind) => {

@@ -27,7 +27,8 @@ pub(crate) fn judge_object(
 ) -> Result<(), AllocError>
     requires valid { IsValidMembers members.now }
     requires order { IsInOrder item.now }
-    ensures { OnOk result (Gains (InObject schema.now profiles.now (with_item item.now members.now) place.now.steps) found.old found.new) }
+    ensures { OnOk result (Gains (InObject schema.now profiles.now (with_item item.now members.now) place.now.steps)
+        found.old found.new) }
 {
     judge_members(schema, profiles, patterns, item, members, place, found)?;
     judge_missing(profiles, item, members, place, found)?;
@@ -46,7 +47,8 @@ fn judge_members(
 ) -> Result<(), AllocError>
     requires valid { IsValidMembers members.now }
     requires order { IsInOrder item.now }
-    ensures { OnOk result (Gains (InMembers schema.now profiles.now item.now place.now.steps members.now) found.old found.new) }
+    ensures { OnOk result (Gains (InMembers schema.now profiles.now item.now place.now.steps members.now)
+        found.old found.new) }
 {
     for member in members {
         judge_member(schema, profiles, patterns, item, member, place, found)?;
@@ -66,7 +68,8 @@ fn judge_member(
 ) -> Result<(), AllocError>
     requires valid { IsValid member.now.value }
     requires order { IsInOrder item.now }
-    ensures { OnOk result (Gains (InMember schema.now profiles.now item.now place.now.steps member.now) found.old found.new) }
+    ensures { OnOk result (Gains (InMember schema.now profiles.now item.now place.now.steps member.now)
+        found.old found.new) }
 {
     if is_null(&member.value) {
         return Ok(());
@@ -124,7 +127,8 @@ fn judge_attribute(
     found: &mut Row<Violation>,
 ) -> Result<(), AllocError>
     requires valid { IsValid value.now }
-    ensures { OnOk result (Gains (IsWithin schema.now profiles.now (of_attribute attr.now value.now) place.now.steps) found.old found.new) }
+    ensures { OnOk result (Gains (IsWithin schema.now profiles.now (of_attribute attr.now value.now) place.now.steps)
+        found.old found.new) }
 {
     if !attr.is_array {
         return judge_single(schema, profiles, patterns, attr, value, place, found);
@@ -156,7 +160,8 @@ fn judge_items(
     found: &mut Row<Violation>,
 ) -> Result<(), AllocError>
     requires valid { IsValidList items.now }
-    ensures { OnOk result (Gains (InItems schema.now profiles.now attr.now place.now.steps items.now) found.old found.new) }
+    ensures { OnOk result (Gains (InItems schema.now profiles.now attr.now place.now.steps items.now)
+        found.old found.new) }
 {
     for (index, item) in items.iter().enumerate() {
         let below = place.below(Step::At(index as u64))?;
@@ -176,7 +181,8 @@ fn judge_single(
     found: &mut Row<Violation>,
 ) -> Result<(), AllocError>
     requires valid { IsValid value.now }
-    ensures { OnOk result (Gains (IsWithin schema.now profiles.now (of_element attr.now value.now) place.now.steps) found.old found.new) }
+    ensures { OnOk result (Gains (IsWithin schema.now profiles.now (of_element attr.now value.now) place.now.steps)
+        found.old found.new) }
 {
     match &attr.target {
         Target::Simple(name) => judge_simple(
@@ -206,7 +212,8 @@ fn judge_inside(
 ) -> Result<(), AllocError>
     requires valid { IsValid value.now }
     requires wants { WantsObject attr.now.target }
-    ensures { OnOk result (Gains (IsWithin schema.now profiles.now (of_element attr.now value.now) place.now.steps) found.old found.new) }
+    ensures { OnOk result (Gains (IsWithin schema.now profiles.now (of_element attr.now value.now) place.now.steps)
+        found.old found.new) }
 {
     match value {
         Tree::Members(members) => match object_named(schema, &attr.target)? {

@@ -53,8 +53,8 @@ fn listed_at<'a>(value: &'a Tree, name: &str) -> Option<&'a Row<Tree>>
 /// The list that the event has at `metadata.profiles`, where there is one.
 pub(crate) fn profile_list(event: &Tree) -> Option<&Row<Tree>>
     requires { IsValid event.now }
-    ensures { option_copied result ≡
-        option_and_then as_list (option_and_then (member_at (codes "profiles")) (member_at (codes "metadata") event.now)) }
+    ensures { option_copied result ≡ option_and_then as_list
+        (option_and_then (member_at (codes "profiles")) (member_at (codes "metadata") event.now)) }
 {
     match event.at("metadata") {
         Some(metadata) => listed_at(metadata, "profiles"),
