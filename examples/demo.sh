@@ -1,5 +1,5 @@
 #!/bin/sh
-# Runs both commands on the examples, shows input and answer, and compares the answer with what is expected.
+# Runs the commands on the examples, shows input and answer, and compares the answer with what is expected.
 # usage: examples/demo.sh PROGRAM, at the top of the repository
 # Where the program isn't there, or is older than the sources, they are compiled without a proof and run with checks.
 program=$1
@@ -26,11 +26,13 @@ try() {
     echo $? > "$made/$name.status"
 }
 
-# Runs both commands, at the same time where they have to be compiled.
-run_both() {
+# Runs the commands, at the same time where they have to be compiled.
+run_all() {
     if is_built; then
         "$program" compile "$schema" > "$made/compile"
         echo $? > "$made/compile.status"
+        "$program" validate "$schema" < examples/events.jsonl > "$made/validate"
+        echo $? > "$made/validate.status"
         "$program" edits < examples/story.edits > "$made/edits"
         echo $? > "$made/edits.status"
         return
@@ -41,6 +43,7 @@ run_both() {
     files=$(cd "${schema%/*}" && find schema -name '*.json' | sed "s|.*|--data &=../../${schema%/*}/&|")
     # (the names of the example have no blanks)
     try compile $files -- compile schema < /dev/null &
+    try validate $files -- validate schema < examples/events.jsonl &
     try edits -- edits < examples/story.edits
     wait
 }
@@ -60,13 +63,27 @@ compare() {
     echo "   (status $status, $(wc -c < "$made/$1" | tr -d ' ') bytes, as in $3)"
 }
 
-run_both
+run_all
 
 echo "== ocsf compile $schema"
 find "$schema" -name '*.json' | LC_ALL=C sort | sed 's/^/   /'
 echo "-- answer"
 ends "$(cat "$made/compile")"
 compare compile 0 examples/schema.expected
+
+echo
+echo "== ocsf validate $schema < examples/events.jsonl"
+exec 3< "$made/validate"
+while IFS= read -r event; do
+    IFS= read -r reply <&3
+    if [ "${#event}" -gt 400 ]; then
+        event=$(ends "$event")
+    fi
+    echo "-- $event"
+    echo "   $reply"
+done < examples/events.jsonl
+# Most of the events aren't allowed, so the status is 1.
+compare validate 1 examples/events.expected
 
 echo
 echo "== ocsf edits < examples/story.edits"

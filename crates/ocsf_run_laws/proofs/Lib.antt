@@ -1,2 +1,3 @@
+pub mod OneEvent
 pub mod OneOutput
 pub mod SomeFolder

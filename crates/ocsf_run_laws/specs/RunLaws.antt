@@ -9,6 +9,7 @@ use Rattle.ocsf_bundle.specs.declared.stored.StoredFile.{StoredFile}
 use Rattle.ocsf_bundle.specs.Stored.{Stored}
 use Rattle.ocsf_rules.specs.Verdict.{types_of, AreDecided}
 use Rattle.ocsf_tool.specs.Edits.{Edited, no_edits, EditStep, EditsOutput}
+use Rattle.ocsf_tool.specs.Events.{ValidateOutput}
 use Rattle.ocsf_tool.specs.Folders.{all_enabled, IsCompiled, CompileOutput}
 use Rattle.ocsf_tool.specs.Laws.{LeadsTo, AreFilesOf}
 
@@ -32,6 +33,14 @@ CompileHasOneOutput = (dir : List ℕ) (lying : List KeptFile) (one other : List
     → ((files : List StoredFile) → AreFilesOf dir lying files → AreDecided (types_of (all_enabled files)))
     → CompileOutput dir lying one is_refused → CompileOutput dir lying other was_refused
     → (one ≡ other) × (is_refused ≡ was_refused)
+
+-- two whole outputs of `validate` over the same folder and bytes are one text, and tell the same of whether an answer was
+-- other than the empty report
+abbrev pub ValidateHasOneOutput : Type 0
+ValidateHasOneOutput = (dir : List ℕ) (lying : List KeptFile) (bytes one other : List ℕ) (is_flawed was_flawed : Bool)
+    → ((files : List StoredFile) → AreFilesOf dir lying files → AreDecided (types_of (all_enabled files)))
+    → ValidateOutput dir lying bytes one is_flawed → ValidateOutput dir lying bytes other was_flawed
+    → (one ≡ other) × (is_flawed ≡ was_flawed)
 
 -- whatever a folder lists, it comes to a schema or to a fault
 abbrev pub HasSomeSchema : Type 0

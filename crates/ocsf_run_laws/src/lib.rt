@@ -3,4 +3,7 @@
 
 mod laws;
 
-pub use laws::{a_folder_comes_to_something, compile_has_one_output, edits_has_one_output};
+pub use laws::{
+    a_folder_comes_to_something, compile_has_one_output, edits_has_one_output,
+    validate_has_one_output,
+};

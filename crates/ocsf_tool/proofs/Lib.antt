@@ -1,7 +1,7 @@
 pub mod Judged
+pub mod LinesCommands
 pub mod Nothing
 pub mod Complete
-pub mod EditsRan
 pub mod FolderRan
 pub mod FormedPaths
 pub mod FolderReads

@@ -40,6 +40,7 @@ use Rattle.ocsf_tool.specs.declared.status.Status.TheVariants.{
 pub data Command : Type 0 where
   Edits : Command
   Compile : List ℕ → Command
+  Validate : List ℕ → Command
 
 -- a folder's name isn't empty and doesn't begin with `-`
 abbrev pub is_folder_name : List ℕ → Bool
@@ -53,9 +54,11 @@ abbrev of_one_word : List ℕ → Option Command
 of_one_word word = if bytes_eq word (codes "edits") then Some Edits else None
 
 abbrev of_two_words : List ℕ → List ℕ → Option Command
-of_two_words word dir = if bytes_eq word (codes "compile") then of_folder Compile dir else None
+of_two_words word dir =
+    if bytes_eq word (codes "compile") then of_folder Compile dir
+    else if bytes_eq word (codes "validate") then of_folder Validate dir else None
 
--- `edits` and `compile DIR`, and no other words
+-- `edits`, `compile DIR` and `validate DIR`, and no other words
 abbrev pub command_of : List (List ℕ) → Option Command
 command_of (word ∷ []) = of_one_word word
 command_of (word ∷ dir ∷ []) = of_two_words word dir
@@ -66,14 +69,17 @@ command_of _ = None
 abbrev pub reads_source : Command → Bool
 reads_source Edits = true
 reads_source (Compile dir) = false
+reads_source (Validate dir) = true
 
 abbrev pub reads_folder : Command → Bool
 reads_folder Edits = false
 reads_folder (Compile dir) = true
+reads_folder (Validate dir) = true
 
 abbrev pub uses_keeper : Command → Bool
 uses_keeper Edits = false
 uses_keeper (Compile dir) = false
+uses_keeper (Validate dir) = false
 
 -- whether the words name a command that calls so
 abbrev pub calls : (Command → Bool) → Option Command → Bool
@@ -81,15 +87,17 @@ calls does named = option_map_or does named false
 
 -- ---- how a command may end
 
--- some of what it read was refused, and it went on
+-- some of what it read was refused or at fault, and it went on
 abbrev pub goes_on_refused : Command → Bool
 goes_on_refused Edits = true
 goes_on_refused (Compile dir) = false
+goes_on_refused (Validate dir) = true
 
--- all that it read was refused
+-- the folder that it read was refused
 abbrev pub may_refuse : Command → Bool
 may_refuse Edits = false
 may_refuse (Compile dir) = true
+may_refuse (Validate dir) = true
 
 abbrev pub may_end : Command → Status → Bool
 may_end command Done = true

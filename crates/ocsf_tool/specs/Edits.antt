@@ -104,7 +104,7 @@ pub record IsLineJudgement (old : Edited) (line : List ℕ) (outcome : Result St
 
 -- ---- the reply, and what is left
 
-abbrev member : List ℕ → Tree → Member
+abbrev pub member : List ℕ → Tree → Member
 member name value = record { name = name; value = value }
 
 abbrev pub accepted_tree : ℕ → Tree

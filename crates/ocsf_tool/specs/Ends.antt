@@ -5,8 +5,9 @@ use Rattle.ocsf_edge.specs.declared.fault.Fail.TheVariants as fail
 use Rattle.ocsf_lines.specs.declared.lines_end.LinesEnd.{LinesEnd}
 use Rattle.ocsf_lines.specs.declared.lines_end.LinesEnd.TheVariants as lines
 use Rattle.ocsf_tool.specs.declared.words.Command.{Command as Named}
-use Rattle.ocsf_tool.specs.declared.words.Command.TheVariants.{Edits as NamesEdits, Compile as NamesCompile}
-use Rattle.ocsf_tool.specs.Commands.{Command, Edits, Compile}
+use Rattle.ocsf_tool.specs.declared.words.Command.TheVariants.{Edits as NamesEdits}
+use Rattle.ocsf_tool.specs.declared.words.Command.TheVariants.{Compile as NamesCompile, Validate as NamesValidate}
+use Rattle.ocsf_tool.specs.Commands.{Command, Edits, Compile, Validate}
 use Rattle.ocsf_tool.specs.declared.status.Status.{Status}
 use Rattle.ocsf_tool.specs.declared.status.Status.TheVariants.{
   Done,
@@ -21,6 +22,7 @@ use Rattle.ocsf_tool.specs.declared.status.Status.TheVariants.{
 abbrev pub named_command : Named → Command
 named_command NamesEdits = Edits
 named_command (NamesCompile dir) = Compile dir.now
+named_command (NamesValidate dir) = Validate dir.now
 
 abbrev pub flawed_or_done : Bool → Status
 flawed_or_done true = Flawed

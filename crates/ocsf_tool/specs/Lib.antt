@@ -1,6 +1,9 @@
 pub mod Answered
 pub mod Commands
 pub mod Edits
+pub mod EventAnswers
+pub mod EventOutcomes
+pub mod Events
 pub mod Ends
 pub mod ExitCodes
 pub mod FolderParts

@@ -1,13 +1,14 @@
 -- What a run has written, by the command and by how it ended. A command says what it writes when it has answered all,
 -- what answers whole lines, when its source was read out, and what it leaves at want of memory; how these go with the
 -- ends is said once for all commands.
-use Rattle.std.specs.Prelude.{◌≡◌, ℕ, ◌^◌, List, [], ◌++◌, length, Bool, true, false, Option, IfSome, ⊤}
+use Rattle.std.specs.Prelude.{◌≡◌, ℕ, ◌^◌, ◌⊎◌, List, [], ◌++◌, length, Bool, true, false, Option, IfSome, ⊤}
 use Rattle.std.specs.Io.KnownBytes.{IsAtEnd}
 use Rattle.ocsf_edge.specs.declared.records.Kept.{Kept}
 use Rattle.ocsf_edge.specs.declared.records.KeptFile.{KeptFile}
 use Rattle.ocsf_lines.specs.Exchange.{Exchange}
-use Rattle.ocsf_tool.specs.Commands.{Command, Edits, Compile}
+use Rattle.ocsf_tool.specs.Commands.{Command, Edits, Compile, Validate}
 use Rattle.ocsf_tool.specs.Edits.{EditsOutput, EditsReplies}
+use Rattle.ocsf_tool.specs.Events.{ValidateOutput, ValidateReplies}
 use Rattle.ocsf_tool.specs.Folders.{CompileOutput}
 use Rattle.ocsf_tool.specs.declared.status.Status.{Status}
 use Rattle.ocsf_tool.specs.declared.status.Status.TheVariants.{
@@ -41,17 +42,23 @@ Whole Edits told taken out Done = EditsOutput taken out false
 Whole Edits told taken out Flawed = EditsOutput taken out true
 Whole (Compile dir) told taken out Done = IfSome told.files (λ lying. CompileOutput dir lying out false)
 Whole (Compile dir) told taken out InputRefused = IfSome told.files (λ lying. CompileOutput dir lying out true)
+Whole (Validate dir) told taken out Done = IfSome told.files (λ lying. ValidateOutput dir lying taken out false)
+Whole (Validate dir) told taken out Flawed = IfSome told.files (λ lying. ValidateOutput dir lying taken out true)
+Whole (Validate dir) told taken out InputRefused =
+    (taken ≡ []) × IfSome told.files (λ lying. CompileOutput dir lying out true)
 Whole _ told taken out _ = ⊥
 
 -- just the whole lines among the bytes taken are answered
 abbrev pub Answers : Command → Told → List ℕ → List ℕ → Type 0
 Answers Edits told taken out = EditsReplies taken out
 Answers (Compile dir) told taken out = ⊥
+Answers (Validate dir) told taken out = IfSome told.files (λ lying. ValidateReplies dir lying taken out)
 
 -- the source was read to its end
 abbrev pub ReadOut : Command → Told → List ℕ → Type 0
 ReadOut Edits told taken = (told.ended ≡ true) × IsAtEnd told.left
 ReadOut (Compile dir) told taken = ⊤
+ReadOut (Validate dir) told taken = (told.ended ≡ true) × IsAtEnd told.left
 
 -- a front of what would be written
 pub record Front (command : Command) (told : Told) (taken out : List ℕ) : Type 0 where
@@ -59,10 +66,11 @@ pub record Front (command : Command) (told : Told) (taken out : List ℕ) : Type
   pub status : Status
   pub whole : Whole command told taken (out ++ more) status
 
--- at want of memory; a folder's schema is made before it is written
+-- at want of memory; a folder's schema is made before it is written, and before a line is taken
 abbrev pub Cut : Command → Told → List ℕ → List ℕ → Type 0
 Cut Edits told taken out = Front Edits told taken out
 Cut (Compile dir) told taken out = out ≡ []
+Cut (Validate dir) told taken out = ((taken ≡ []) × (out ≡ [])) ⊎ Front (Validate dir) told taken out
 
 -- ---- what was written, by how the run ended
 
@@ -75,7 +83,7 @@ Wrote command told ReadFault taken out = Answers command told taken out
 Wrote command told WriteFault taken out = Front command told taken out
 Wrote command told Memory taken out = Cut command told taken out
 Wrote command told KeeperFault taken out = ⊥
-Wrote command told FolderFault taken out = out ≡ []
+Wrote command told FolderFault taken out = (taken ≡ []) × (out ≡ [])
 Wrote command told Limit taken out = Answers command told taken out × (length taken ≡ 2 ^ 40)
 Wrote command told AcceptFault taken out = ⊥
 

@@ -15,6 +15,7 @@ ghost use Rattle.ocsf_tool.specs.Outputs.{Ran, is_silent};
 
 use crate::Status;
 use crate::edits_run::run_edits;
+use crate::events_run::run_validate;
 use crate::folder_run::run_compile;
 use crate::words::{Command, command_of};
 use ocsf_edge::{Folder, Keeper, Sink, Source};
@@ -23,7 +24,7 @@ use std::alloc::Global;
 
 /// Runs the command that the words name. `edits` reads an edit a line, answers each line, and prints the schema of the
 /// accepted edits when the source has ended. `compile DIR` prints the schema of the folder's files, or the line that
-/// refuses them.
+/// refuses them. `validate DIR` compiles the folder in this way, and then answers each line, an event, by its report.
 pub fn run<S: Source, K: Sink, F: Folder, P: Keeper>(
     alloc: Global,
     words: &[Text],
@@ -72,6 +73,7 @@ pub fn run<S: Source, K: Sink, F: Folder, P: Keeper>(
     match command_of(words) {
         Some(Command::Edits) => run_edits(alloc, source, sink),
         Some(Command::Compile(dir)) => run_compile(alloc, dir, sink, folder),
+        Some(Command::Validate(dir)) => run_validate(alloc, dir, source, sink, folder),
         None => Status::Usage,
     }
 }

@@ -11,7 +11,7 @@ use ocsf_lines::{LinesEnd, run_lines};
 use std::alloc::Global;
 
 /// How a command over lines ends.
-fn lines_status(end: LinesEnd) -> Status
+pub fn lines_status(end: LinesEnd) -> Status
     ensures { result ≡ lines_status end }
 {
     match end {

@@ -1,5 +1,5 @@
 // The command `compile`.
-ghost use Rattle.std.specs.Prelude.{◌≡◌, ℕ, List, true, ◌++◌, ◌∷◌, [], OnOk, IsErrOf};
+ghost use Rattle.std.specs.Prelude.{◌≡◌, true, ◌++◌, ◌∷◌, [], OnOk, IsErrOf};
 ghost use Rattle.std.specs.Io.KnownBytes.{Appends};
 ghost use Rattle.ocsf_edge.specs.declared.fault.Fail.TheVariants as fail;
 ghost use Rattle.ocsf_edge.specs.Faults.{HasCauseOrMemory};
@@ -20,7 +20,7 @@ use ocsf_tree::Fault;
 use std::alloc::Global;
 
 /// Writes the line that refuses a folder.
-fn write_refusal<K: Sink>(alloc: Global, fault: &Fault, sink: &mut K) -> Result<(), Fail>
+pub fn write_refusal<K: Sink>(alloc: Global, fault: &Fault, sink: &mut K) -> Result<(), Fail>
     ensures ok { OnOk result (Appends (K.written sink.old) (K.written sink.new)
         (text (refused_tree fault.now) ++ 10 ∷ [])) }
     ensures failed { IsErrOf result fail.Failed
@@ -36,7 +36,7 @@ fn write_refusal<K: Sink>(alloc: Global, fault: &Fault, sink: &mut K) -> Result<
 }
 
 /// How a run ends whose folder was refused.
-fn refusal_status(written: Result<(), Fail>) -> Status
+pub fn refusal_status(written: Result<(), Fail>) -> Status
     ensures { result ≡ refusal_status written }
 {
     match written {
@@ -54,9 +54,9 @@ pub fn run_compile<K: Sink, F: Folder>(
     folder: &mut F,
 ) -> Status
     ensures ends { may_end (Compile dir.now) result ≡ true }
-    // Whatever the other objects tell, and whatever was taken.
-    ensures ran { (told : Told) (taken : List ℕ) → Written (K.written sink.old) (K.written sink.new)
-        (λ out. Wrote (Compile dir.now) (record told { files = F.files folder.old }) result taken out) }
+    // Whatever the other objects tell; nothing is taken.
+    ensures ran { (told : Told) → Written (K.written sink.old) (K.written sink.new)
+        (λ out. Wrote (Compile dir.now) (record told { files = F.files folder.old }) result [] out) }
     ensures silent { is_silent (Compile dir.now) result ≡ true → sink.new ≡ sink.old }
     ensures listings { FailedOnlyAt Status.FolderFault result
         (F.folder_faults folder.old) (F.folder_faults folder.new) }

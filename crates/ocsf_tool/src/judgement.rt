@@ -20,7 +20,7 @@ use std::alloc::{AllocError, Global};
 pub const MOST_EDIT: usize = 1 << 24;
 
 /// A fault without a subject.
-fn line_fault_of(alloc: Global, code: Code, name: Text) -> Result<Fault, AllocError>
+pub fn line_fault_of(alloc: Global, code: Code, name: Text) -> Result<Fault, AllocError>
     ensures { IfOk result (λ fault. fault ≡ line_fault code name) }
 {
     let subject = Text::of(alloc, "")?;
@@ -131,7 +131,7 @@ fn judge_text(alloc: Global, now: &Compilation, line: &[u8]) -> Result<Outcome, 
 }
 
 /// Whether the line has more bytes.
-fn is_longer(line: &[u8], most: usize) -> bool
+pub fn is_longer(line: &[u8], most: usize) -> bool
     ensures longer { result ≡ true → most < length line.now }
     ensures no_longer { result ≡ false → length line.now ≤ most }
 {

@@ -3,6 +3,7 @@ ghost use Rattle.std.specs.Prelude.{◌≡◌, ◌++◌, ◌∷◌, [], IfOk};
 ghost use Rattle.ocsf_tree.specs.CompactText.{text};
 ghost use Rattle.ocsf_tree.specs.Valid.{IsValid};
 ghost use Rattle.ocsf_tool.specs.Edits.{accepted_tree, fault_tree, refused_tree};
+ghost use Rattle.ocsf_tool.specs.Events.{unread_tree};
 
 use ocsf_edge::Bytes;
 use ocsf_tree::{Fault, Member, Row, Text, Tree, TryClone, print};
@@ -45,6 +46,16 @@ pub fn refused(alloc: Global, fault: &Fault) -> Result<Bytes, AllocError>
     line(alloc, &Tree::Members(members))
 }
 
+/// What a line that says no event is answered.
+pub fn unread(alloc: Global, fault: &Fault) -> Result<Bytes, AllocError>
+    ensures { IfOk result (λ reply. reply ≡ text (unread_tree fault.now) ++ 10 ∷ []) }
+{
+    let mut members = Row::new(alloc);
+    let fault = fault_tree_of(alloc, fault)?;
+    members.push(member(alloc, "unread", fault)?)?;
+    line(alloc, &Tree::Members(members))
+}
+
 /// What an accepted line is answered.
 pub fn accepted(alloc: Global, revision: u32) -> Result<Bytes, AllocError>
     ensures { IfOk result (λ reply. reply ≡ text (accepted_tree revision) ++ 10 ∷ []) }
@@ -56,7 +67,7 @@ pub fn accepted(alloc: Global, revision: u32) -> Result<Bytes, AllocError>
 }
 
 /// The tree as a line.
-fn line(alloc: Global, tree: &Tree) -> Result<Bytes, AllocError>
+pub fn line(alloc: Global, tree: &Tree) -> Result<Bytes, AllocError>
     requires { IsValid tree.now }
     ensures { IfOk result (λ reply. reply ≡ text tree.now ++ 10 ∷ []) }
 {

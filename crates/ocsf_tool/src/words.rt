@@ -11,6 +11,8 @@ pub enum Command<'a> {
     Edits,
     /// The folder's name.
     Compile(&'a str),
+    /// The folder's name.
+    Validate(&'a str),
 }
 
 /// Whether the word isn't empty and doesn't begin with `-`.
@@ -31,6 +33,9 @@ pub fn command_of(words: &[Text]) -> Option<Command<'_>>
         [word] if word.as_str() == "edits" => Some(Command::Edits),
         [word, dir] if word.as_str() == "compile" && is_folder_name(dir.as_str()) => {
             Some(Command::Compile(dir.as_str()))
+        }
+        [word, dir] if word.as_str() == "validate" && is_folder_name(dir.as_str()) => {
+            Some(Command::Validate(dir.as_str()))
         }
         _ => None,
     }

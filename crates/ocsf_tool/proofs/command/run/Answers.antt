@@ -1,6 +1,6 @@
 use Rattle.std.proofs.Common.{◌≡◌, [], Option, Some, sym, subst, rules}
 use Rattle.std.specs.Prelude.{IfSome}
-use Rattle.ocsf_tool.specs.Commands.{Command, Edits, Compile, command_of}
+use Rattle.ocsf_tool.specs.Commands.{Command, Edits, Compile, Validate, command_of}
 use Rattle.ocsf_tool.specs.Outputs.{Told, Wrote, Ran}
 use Rattle.ocsf_tool.proofs.FolderRan.{nothing_taken}
 use Rattle.ocsf_tool.proofs.command.run.Goals as goal
@@ -35,4 +35,20 @@ returns-in-Some-Compile-clause-ran g c =
       left = left;
     } in
     subst (λ (o : Option Command). IfSome o (λ command. Ran command told c.run_compile.result left left old new))
-    (sym named) (nothing_taken left old new (Wrote (Compile dir) told c.run_compile.result) (c.run_compile.ensures.ran told []))
+    (sym named) (nothing_taken left old new (Wrote (Compile dir) told c.run_compile.result) (c.run_compile.ensures.ran told))
+
+pub returns-in-Some-Validate-clause-ran : goal.returns-in-Some-Validate-clause-ran
+returns-in-Some-Validate-clause-ran g c =
+    let dir = c.in-Some-Validate.dir.now in
+    let named : command_of c.args.words.now ≡ Some (Validate dir) = search rules in
+    let source = c.run_validate.new.source in
+    let told : Told = record {
+      files = g.F.Folder.files c.args.folder.now;
+      tables = g.P.Keeper.tables c.args._keeper.now;
+      tables_after = g.P.Keeper.tables c.args._keeper.now;
+      ended = g.S.Source.has_ended source;
+      left = g.S.Source.left source;
+    } in
+    subst (λ (o : Option Command). IfSome o (λ command. Ran command told c.run_validate.result
+    (g.S.Source.left c.args.source.now) (g.S.Source.left source) (g.K.Sink.written c.args.sink.now) (g.K.Sink.written c.run_validate.new.sink)))
+    (sym named) (c.run_validate.ensures.ran told)

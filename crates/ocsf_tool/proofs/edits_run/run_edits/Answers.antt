@@ -1,15 +1,16 @@
-use Rattle.std.proofs.Common.{subst}
+use Rattle.std.proofs.Common.{refl, subst}
 use Rattle.ocsf_lines.specs.Reading.{LinesRan}
 use Rattle.ocsf_tool.specs.Edits.{Edited, EditStep, edits_print}
 use Rattle.ocsf_tool.proofs.Nothing.{nothing_ran}
-use Rattle.ocsf_tool.proofs.EditsRan.{edits_ran, edits_end, at_limit, reads_at, writes_at}
+use Rattle.ocsf_tool.specs.Commands.{Edits}
+use Rattle.ocsf_tool.proofs.LinesCommands.{edits_ran, lines_end, at_limit, reads_at, writes_at}
 use Rattle.ocsf_tool.proofs.edits_run.run_edits.Goals as goal
 
 pub returns-in_default-clause-ran : goal.returns-in_default-clause-ran
 returns-in_default-clause-ran g c = λ told. nothing_ran _ _ _
 
 pub returns-clause-ends : goal.returns-clause-ends
-returns-clause-ends g c = rw c.lines_status.ensures (edits_end _)
+returns-clause-ends g c = rw c.lines_status.ensures (lines_end Edits refl refl _)
 
 pub returns-clause-ran : goal.returns-clause-ran
 returns-clause-ran g c = λ told.
