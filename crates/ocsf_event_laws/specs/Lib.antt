@@ -1,0 +1,2 @@
+pub mod FilesAllow
+pub mod FileLaws
