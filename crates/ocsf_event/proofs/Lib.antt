@@ -14,3 +14,4 @@ mod Reports
 mod Sorted
 mod ValidReports
 mod Walks
+pub mod OverFiles

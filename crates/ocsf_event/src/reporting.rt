@@ -1,5 +1,5 @@
 // The report of an event.
-ghost use Rattle.std.specs.Prelude.{◌≡◌, ◌∷◌, ◌++◌, [], IfOk, OnOk, map, Some};
+ghost use Rattle.std.specs.Prelude.{◌≡◌, ◌↔◌, ◌∷◌, ◌++◌, [], IfOk, OnOk, map, Some};
 ghost use Rattle.std.specs.Option.{option_copied, option_and_then, IfSome};
 ghost use Rattle.ocsf_tree.specs.Valid.{IsValid, IsValidMembers};
 ghost use Rattle.ocsf_tree.specs.declared.place.Step.TheVariants.{Name};
@@ -12,6 +12,10 @@ ghost use Rattle.ocsf_event_rules.specs.EventClass.{as_object, class_numbered, c
 ghost use Rattle.ocsf_event.specs.Code.{told_violation};
 ghost use Rattle.ocsf_event_rules.specs.Violations.{IsReport, whole_text};
 ghost use Rattle.ocsf_event.specs.Walk.{IsWrong, IsAmiss, IsSmall};
+ghost use Rattle.ocsf_bundle.specs.Stored.{Stored};
+ghost use Rattle.ocsf_rules.specs.Compilation.{compilation};
+ghost use Rattle.ocsf_rules.specs.Verdict.{IsFaultless};
+ghost use Rattle.ocsf_event_laws.specs.FilesAllow.{IsAllowedByFiles};
 
 use crate::members::whole_at;
 use crate::order::in_order;
@@ -152,7 +156,9 @@ fn judge(
     }
 }
 
-/// What is wrong with the event, in order.
+/// What is wrong with the event, in order: just its violations by the schema, each once, strictly by place, rank and
+/// detail. Where the schema is what the files of a bundle without a fault are compiled to, nothing is wrong just where
+/// these files allow the event. Only want of memory is an error.
 pub fn report(
     alloc: Global,
     schema: &Schema,
@@ -160,7 +166,9 @@ pub fn report(
     patterns: &mut Patterns,
 ) -> Result<Row<Violation>, AllocError>
     requires { IsValid event.now }
-    ensures { IfOk result (λ made. IsReport schema.now event.now (map told_violation made)) }
+    ensures report { IfOk result (λ made. IsReport schema.now event.now (map told_violation made)) }
+    ensures files { IfOk result (λ made. (bundle : Stored) → IsFaultless bundle → schema.now ≡ compilation bundle
+        → ((made ≡ []) ↔ IsAllowedByFiles bundle event.now)) }
 {
     let mut found = Row::new(alloc);
     judge(alloc, schema, patterns, event, &mut found)?;
