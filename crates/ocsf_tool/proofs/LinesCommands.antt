@@ -9,7 +9,7 @@ use Rattle.ocsf_lines.specs.Reading.{LinesRan}
 use Rattle.ocsf_lines.specs.Run.{StepOf, Output, OutputFront, Replies}
 use Rattle.ocsf_lines.specs.declared.lines_end.LinesEnd.{LinesEnd}
 use Rattle.ocsf_lines.specs.declared.lines_end.LinesEnd.TheVariants as lines
-use Rattle.ocsf_tool.specs.declared.status.Status.TheVariants.{ReadFault, WriteFault, Limit}
+use Rattle.ocsf_tool.specs.declared.status.Status.TheVariants.{ReadFault, WriteFault, FolderFault, Limit}
 use Rattle.ocsf_tool.specs.Commands.{Command, Edits, Validate, FailedOnlyAt, goes_on_refused, may_end, reads_source}
 use Rattle.ocsf_tool.specs.Edits.{EditStep, edits_print, no_edits}
 use Rattle.ocsf_tool.specs.Ends.{flawed_or_done, lines_status}
@@ -98,6 +98,15 @@ lines_end command goes reads lines.ReadFault = reads
 lines_end command goes reads lines.WriteFault = refl
 lines_end command goes reads lines.Memory = refl
 lines_end command goes reads lines.Limit = reads
+
+-- no run over lines ends by a folder
+pub not_at_folder : (end : LinesEnd) → lines_status end ≡ FolderFault → ⊥
+not_at_folder (lines.Ended true) e = cc
+not_at_folder (lines.Ended false) e = cc
+not_at_folder lines.ReadFault e = cc
+not_at_folder lines.WriteFault e = cc
+not_at_folder lines.Memory e = cc
+not_at_folder lines.Limit e = cc
 
 pub at_limit : (end : LinesEnd) → lines_status end ≡ Limit → end ≡ lines.Limit
 at_limit (lines.Ended true) e = absurd cc

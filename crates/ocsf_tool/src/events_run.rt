@@ -27,6 +27,7 @@ fn run_events<S: Source, K: Sink>(
     ensures ran { (dir : List ℕ) (told : Told) → IfSome told.files (λ lying. IsCompiled dir lying (Ok schema))
         → Ran (Validate dir) (record told { ended = S.has_ended source.new; left = S.left source.new })
         result (S.left source.old) (S.left source.new) (K.written sink.old) (K.written sink.new) }
+    ensures no_folder { result ≡ Status.FolderFault → ⊥ }
     ensures limit_open { result ≡ Status.Limit → S.has_ended source.new ≡ S.has_ended source.old }
     ensures reads { FailedOnlyAt Status.ReadFault result (S.read_faults source.old) (S.read_faults source.new) }
     ensures writes { FailedOnlyAt Status.WriteFault result (K.write_faults sink.old) (K.write_faults sink.new) }

@@ -1,4 +1,4 @@
-use Rattle.std.proofs.Common.{Err, ap, rules}
+use Rattle.std.proofs.Common.{◌≡◌, Err, ap, rules}
 use Rattle.std.specs.Prelude.{IfSome}
 use Rattle.ocsf_tool.specs.declared.status.Status.TheVariants.{FolderFault, Memory}
 use Rattle.ocsf_tool.specs.Commands.{Validate}
@@ -51,3 +51,11 @@ returns-in-Err-Memory-clause-ran g c = λ told.
     } in
     nothing_taken (g.S.Source.left c.args.source.now) written written (Wrote (Validate c.args.dir.now) here Memory)
     (validate_at_memory c.args.dir.now here written)
+
+pub returns-in-Ok-clause-silent : goal.returns-in-Ok-clause-silent
+returns-in-Ok-clause-silent g c = λ folder. absurd (c.run_events.ensures.no_folder folder)
+
+pub returns-in-Ok-clause-listings : goal.returns-in-Ok-clause-listings
+returns-in-Ok-clause-listings g c =
+    let kept : g.F.Folder.folder_faults c.compile_folder.new.folder ≡ g.F.Folder.folder_faults c.args.folder.now = search rules in
+    record { rose = λ folder. absurd (c.run_events.ensures.no_folder folder); kept = λ _. kept }
