@@ -3,7 +3,7 @@ use Rattle.std.proofs.Common.{◌≡◌, ℕ, zero, suc, ◌+◌, ◌-◌, ◌�
 use Rattle.std.specs.Str.{bytes_eq}
 use Rattle.std.specs.Cmp.Lexicographic.{bytes_decides}
 use Rattle.std.specs.declared.alloc.Global.{Global}
-use Rattle.std.specs.Map.{lookup, lookup_entry, remove_entry}
+use Rattle.std.specs.Map.{lookup, lookup_entry, remove_entry, set_value}
 use Rattle.std.specs.Option.{option_map_or}
 use Rattle.std.proofs.lemmas.List.{take-map, length-map, length-take}
 use Rattle.std.proofs.lemmas.Option.{same_Some}
@@ -169,3 +169,38 @@ found_all {X = X} P text (e ∷ es) a v h =
         (f : Entry X) × (f.1 ≡ v) × (string_bytes f.0 ≡ text) × P f
     go rest true at h = (e, same_Some _ _ (sym h), sym ((bytes_decides text (string_bytes e.0)).0 at), All-head P e es a)
     go rest false at h = rest h
+
+-- what a value written in its place leaves
+module _ {V : Type 0} (text : List ℕ) (w : V) where
+  pub written_texts : (es : List (Entry V)) → map text_of (set_value (is_text text) es w) ≡ map text_of es
+  written_texts [] = refl
+  written_texts (e ∷ es) = go (written_texts es) (bytes_eq text (string_bytes e.0))
+    where
+      go : map text_of (set_value (is_text text) es w) ≡ map text_of es → (b : Bool) →
+          map text_of (cond b ((e.0, w) ∷ es) (e ∷ set_value (is_text text) es w)) ≡ text_of e ∷ map text_of es
+      go rest true = refl
+      go rest false = ap (λ ts. text_of e ∷ ts) rest
+
+  pub written_there : (es : List (Entry V)) → is_some (lookup (is_text text) (set_value (is_text text) es w)) ≡ is_some (lookup (is_text text) es)
+  written_there [] = refl
+  written_there (e ∷ es) = go (written_there es) (bytes_eq text (string_bytes e.0)) refl
+    where
+      go : is_some (lookup (is_text text) (set_value (is_text text) es w)) ≡ is_some (lookup (is_text text) es) → (b : Bool) → bytes_eq text (string_bytes e.0) ≡ b →
+          is_some (lookup (is_text text) (cond b ((e.0, w) ∷ es) (e ∷ set_value (is_text text) es w))) ≡ is_some (cond b (Some e.1) (lookup (is_text text) es))
+      go rest true at = rw at refl
+      go rest false at = rw at rest
+
+  length_written : (es : List (Entry V)) → length (set_value (is_text text) es w) ≡ length es
+  length_written es = sym (length-map _ _) ∙ ap length (written_texts es) ∙ length-map _ _
+
+  module _ (P : Entry V → Type 0) (here : (e : Entry V) → string_bytes e.0 ≡ text → P (e.0, w)) where
+    written_all : (es : List (Entry V)) → All P es → All P (set_value (is_text text) es w)
+    written_all [] a = a
+    written_all (e ∷ es) a = go (written_all es (All-tail P e es a)) (bytes_eq text (string_bytes e.0)) refl
+      where
+        go : All P (set_value (is_text text) es w) → (b : Bool) → bytes_eq text (string_bytes e.0) ≡ b → All P (cond b ((e.0, w) ∷ es) (e ∷ set_value (is_text text) es w))
+        go rest true at = All-cons P _ _ (here e (sym ((bytes_decides text (string_bytes e.0)).0 at))) (All-tail P e es a)
+        go rest false at = All-cons P _ _ (All-head P e es a) rest
+
+    pub written_held : (c : LruCache (String Global) V) → IsHeldBy P c → IsHeldBy P (lru_cache (set_value (is_text text) c.entries w) c.cap)
+    written_held c held = (held.0, subst (λ n. n ≤ 8) (sym (length_written c.entries)) held.1, written_all c.entries held.2)

@@ -1,9 +1,8 @@
 -- The texts that are held built, the last used first.
 use Rattle.std.specs.Prelude.{◌≡◌, ℕ, List, [], ◌∷◌, take, if◌then◌else◌}
 use Rattle.std.specs.Str.{bytes_eq}
-use Rattle.regex.specs.Strings.{regex_source, regex_config, IsReadFromSource}
-use Rattle.regex.specs.Patterns.{default_config}
-use Rattle.regex.specs.declared.string.regex.Regex.{Regex}
+use Rattle.ocsf_pattern.specs.Reads.{IsRegexOf, IsProgramOf}
+use Rattle.ocsf_pattern.specs.declared.built.Built.{Built}
 
 -- the list without that text
 abbrev pub without : List ℕ → List (List ℕ) → List (List ℕ)
@@ -14,6 +13,6 @@ without text (t ∷ ts) = if bytes_eq text t then ts else (t ∷ without text ts
 abbrev pub used : List ℕ → List (List ℕ) → List (List ℕ)
 used text held = text ∷ take 7 (without text held)
 
--- the text built, as `regex` reads it
-abbrev pub IsBuiltFrom : List ℕ → Regex → Type 0
-IsBuiltFrom text r = (regex_source r ≡ text) × (regex_config r ≡ default_config) × IsReadFromSource r
+-- the text built
+abbrev pub IsBuiltFrom : List ℕ → Built → Type 0
+IsBuiltFrom text b = IsRegexOf text b.regex × IsProgramOf text b.finder.program

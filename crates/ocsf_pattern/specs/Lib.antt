@@ -1,3 +1,4 @@
 pub mod Matches
 pub mod Readings
 pub mod Held
+pub mod Reads

@@ -5,8 +5,8 @@ ghost use Rattle.ocsf_pattern.specs.Held.{used, IsBuiltFrom};
 ghost use Rattle.ocsf_pattern.specs.Matches.{is_found};
 ghost use Rattle.ocsf_pattern.specs.Readings.{IsGood, IsBad, NestsTooDeep};
 
+use crate::built::Built;
 use lru::LruCache;
-use regex::{Error, Regex};
 use std::alloc::{AllocError, Global};
 use std::marker::Model;
 use std::num::NonZeroUsize;
@@ -20,28 +20,10 @@ pub enum PatternError {
     Memory,
 }
 
-fn build(alloc: Global, text: &str) -> Result<Regex, PatternError>
-    ensures refused { IfErr result (λ e. e ≡ PatternError.Refused → IsBad text.now ⊎ NestsTooDeep text.now) }
-    ensures built { IfOk result (IsBuiltFrom text.now) }
-{
-    match Regex::new(alloc, text) {
-        Ok(regex) => Ok(regex),
-        Err(Error::Syntax(_)) => Err(PatternError::Refused),
-        Err(_) => Err(PatternError::Memory),
-    }
-}
-
-fn search(alloc: Global, regex: &Regex, subject: &str) -> Result<bool, AllocError>
-    ensures { (text : List ℕ) → IsBuiltFrom text regex.now → IfOk result (λ found. found ≡ is_found text subject.now) }
-{
-    let mut matcher = regex.matcher(alloc)?;
-    Ok(matcher.is_match(subject))
-}
-
 /// At most eight patterns kept built, seen as their texts, the last used first.
 #[derive(Drop)]
 pub struct Patterns {
-    cache: LruCache<String, Regex>,
+    cache: LruCache<String, Built>,
     alloc: Global,
 }
 
@@ -63,13 +45,13 @@ impl Patterns {
         Ok(Patterns { cache, alloc })
     }
 
-    fn keep(&mut self, text: &str, regex: Regex) -> Result<(), AllocError>
-        requires { IsBuiltFrom text.now regex }
+    fn keep(&mut self, text: &str, built: Built) -> Result<(), AllocError>
+        requires { IsBuiltFrom text.now built }
         ensures kept { OnOk result (self.new ≡ used text.now self.old) }
         ensures same { OnErr result (self.new ≡ self.old) }
     {
         let key = String::from_str(self.alloc, text)?;
-        match self.cache.put(key, regex) {
+        match self.cache.put(key, built) {
             Ok(_) => Ok(()),
             Err(_) => Err(AllocError),
         }
@@ -85,8 +67,8 @@ impl Patterns {
         if self.cache.promote(text) {
             return Ok(());
         }
-        let regex = build(self.alloc, text)?;
-        match self.keep(text, regex) {
+        let built = Built::new(self.alloc, text)?;
+        match self.keep(text, built) {
             Ok(()) => Ok(()),
             Err(_) => Err(PatternError::Memory),
         }
@@ -100,16 +82,16 @@ impl Patterns {
         ensures same { OnErr result (self.new ≡ self.old) }
     {
         let alloc = self.alloc;
-        if let Some(regex) = self.cache.peek(text) {
-            let found = search(alloc, regex, subject)?;
+        if let Some(built) = self.cache.peek_mut(text) {
+            let found = built.search(alloc, subject)?;
             self.cache.promote(text);
             return Ok(found);
         }
-        let Ok(regex) = build(alloc, text) else {
+        let Ok(mut built) = Built::new(alloc, text) else {
             return Err(AllocError);
         };
-        let found = search(alloc, &regex, subject)?;
-        self.keep(text, regex)?;
+        let found = built.search(alloc, subject)?;
+        self.keep(text, built)?;
         Ok(found)
     }
 }

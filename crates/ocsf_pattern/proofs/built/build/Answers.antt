@@ -3,7 +3,7 @@ use Rattle.std.specs.Prelude.{IfSome, IsSomeAnd, chars}
 use Rattle.regex.specs.Patterns.{Re, Refuses, default_config}
 use Rattle.regex_syntax.specs.Grammar.{Names, read}
 use Rattle.regex_syntax.specs.Brackets.{Nested}
-use Rattle.ocsf_pattern.proofs.patterns.build.Goals as goal
+use Rattle.ocsf_pattern.proofs.built.build.Goals as goal
 
 none_or_deep : {X : Type 0} (o : Option X) (P : X → Type 0) → IfSome o P → (o ≡ None) ⊎ IsSomeAnd o P
 none_or_deep None P deep = inl refl

@@ -1,5 +1,5 @@
 use Rattle.ocsf_pattern.proofs.Found.{is_found_of_regex}
-use Rattle.ocsf_pattern.proofs.patterns.search.Goals as goal
+use Rattle.ocsf_pattern.proofs.built.search.Goals as goal
 
 pub returns : goal.returns
 returns c = λ text built.
