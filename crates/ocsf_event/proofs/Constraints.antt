@@ -15,7 +15,7 @@ use Rattle.ocsf_event_rules.specs.Violations.{comma}
 use Rattle.ocsf_event.specs.ByCode.{IsWrongObject}
 use Rattle.ocsf_event.specs.Gains.{Gains}
 use Rattle.ocsf_event.specs.Walk.{IsThis, IsWrongWhole, IsTooFew, IsNotOne}
-use Rattle.ocsf_event.proofs.Gains.{gains_alike, gains_both}
+use Rattle.ocsf_event.proofs.Gains.{gains_alike}
 
 module _ (profiles : List (List ℕ)) (object : ItemObject) (place : List Step) where
   abbrev Two : Violation → Type 0
@@ -30,9 +30,8 @@ module _ (profiles : List (List ℕ)) (object : ItemObject) (place : List Step) 
   of_two v (inl w) = (w.0, subst (λ c. IsWrongObject profiles object c v.detail) (sym w.1) w.2)
   of_two v (inr w) = (w.0, subst (λ c. IsWrongObject profiles object c v.detail) (sym w.1) w.2)
 
-  pub gains_whole : (old mid new : List Violation) → Gains (IsTooFew profiles object place) old mid → Gains (IsNotOne profiles object place) mid new → Gains (IsWrongWhole profiles object place) old new
-  gains_whole old mid new g h = gains_alike Two (IsWrongWhole profiles object place) old new of_two (λ v w. to_two v v.code refl w.0 w.1)
-      (gains_both (IsTooFew profiles object place) (IsNotOne profiles object place) old mid new g h)
+  pub gains_whole : (old new : List Violation) → Gains Two old new → Gains (IsWrongWhole profiles object place) old new
+  gains_whole old new g = gains_alike Two (IsWrongWhole profiles object place) old new of_two (λ v w. to_two v v.code refl w.0 w.1) g
 
   pub gains_too_few : (old new : List Violation) → (HasOneOrMore object.members (listed_in_force profiles object.item object.item.at_least_one) → ⊥)
       → Gains (IsThis place code.AtLeastOne (join_with_byte comma object.item.at_least_one)) old new → Gains (IsTooFew profiles object place) old new

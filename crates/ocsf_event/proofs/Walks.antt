@@ -168,7 +168,7 @@ module _ (schema : SchemaParts) (profiles : List (List ℕ)) where
       element_is : (position : ℕ) → element_seen position (of_attribute attr value) ≡ option_map (of_element attr) (slice_get items position)
       element_is position = ap (λ b. element_if b position) array ∙ ap (λ o. option_map (of_element attr) (option_and_then (λ values. slice_get values position) o)) is
 
-      to_items_of : {here : Seen} {place : List Step} {v : Violation} → here ≡ of_attribute attr value → Within here place v → InItems schema profiles attr place items v
+      to_items_of : {here : Seen} {place : List Step} {v : Violation} → here ≡ of_attribute attr value → Within here place v → InItems schema profiles attr items place v
       to_items_of same (Here here place v at w) =
           absurd (none-some items (sym (list_wrong v.code v.detail (subst (λ h. IsWrongValue schema h v.code v.detail) same w)).0 ∙ is))
       to_items_of same (OfMember here place v object name found at w) = absurd (none-some object (sym no_object ∙ sym (ap (object_seen schema) same) ∙ found))
@@ -179,10 +179,10 @@ module _ (schema : SchemaParts) (profiles : List (List ℕ)) where
           let parts = picked (slice_get items position) next (λ n. Within n (at_position place position) v) (sym (element_is position) ∙ sym (ap (element_seen position) same) ∙ found) w in
           record { at = position; item = parts.0; found = parts.1; holds = parts.2 }
 
-      pub to_items : (place : List Step) (v : Violation) → Within (of_attribute attr value) place v → InItems schema profiles attr place items v
+      pub to_items : (place : List Step) (v : Violation) → Within (of_attribute attr value) place v → InItems schema profiles attr items place v
       to_items place v w = to_items_of refl w
 
-      pub from_items : (place : List Step) (v : Violation) → InItems schema profiles attr place items v → Within (of_attribute attr value) place v
+      pub from_items : (place : List Step) (v : Violation) → InItems schema profiles attr items place v → Within (of_attribute attr value) place v
       from_items place v e = Deeper (of_attribute attr value) place v (At e.at) (of_element attr e.item) (element_is e.at ∙ ap (option_map (of_element attr)) e.found) e.holds
 
     module _ (none : as_list value ≡ None) where
