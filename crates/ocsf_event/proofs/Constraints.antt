@@ -1,10 +1,14 @@
 -- The constraints of an object.
 use Rattle.std.proofs.Common.{◌≡◌, ℕ, zero, suc, ◌+◌, length, List, [], ◌∷◌, ◌++◌, Bool, true, false, cond, true≢false, ◌⊎◌, inl, inr, refl, sym, ◌∙◌, ap, subst, arith}
+use Rattle.std.specs.Prelude.{filter, ◌&&◌, ◌==◌}
 use Rattle.std.specs.List.{join_with_byte}
 use Rattle.std.proofs.lemmas.List.{append_assoc}
 use Rattle.std.proofs.lemmas.Bool.{eqb-true, eq-eqb}
 use Rattle.ocsf_tree.specs.declared.tree.Member.{Member}
 use Rattle.ocsf_schema.specs.declared.records.Attr.{Attr}
+use Rattle.ocsf_schema.specs.declared.records.Item.{Item}
+use Rattle.ocsf_lists.specs.Among.{is_among}
+use Rattle.ocsf_event_rules.specs.Profiles.{is_in_force}
 use Rattle.ocsf_event_rules.specs.Conditions.{listed_in_force, count_present, HasOneOrMore, HasJustOne}
 use Rattle.ocsf_tree.specs.declared.place.Step.{Step}
 use Rattle.ocsf_event.specs.declared.violation.Wrong.{Wrong}
@@ -56,3 +60,12 @@ not_one members (a ∷ rest) some many has = many (eqb-true (count_present membe
 pub join_more : (c : ℕ) (x : List ℕ) (xs : List (List ℕ)) (y : List ℕ) → join_with_byte c (x ∷ (xs ++ y ∷ [])) ≡ join_with_byte c (x ∷ xs) ++ c ∷ y
 join_more c x [] y = refl
 join_more c x (z ∷ zs) y = ap (λ (l : List ℕ). x ++ c ∷ l) (join_more c z zs y) ∙ sym (append_assoc x (c ∷ join_with_byte c (z ∷ zs)) (c ∷ y))
+
+-- of no names none is listed
+none_listed : (profiles : List (List ℕ)) (attrs : List Attr) → filter (λ (a : Attr). is_among a.name [] && is_in_force profiles a) attrs ≡ []
+none_listed profiles [] = refl
+none_listed profiles (a ∷ attrs) = none_listed profiles attrs
+
+pub none_named : (profiles : List (List ℕ)) (item : Item) (names : List (List ℕ)) → (length names == 0) ≡ true → 0 ≡ length (listed_in_force profiles item names)
+none_named profiles item [] e = sym (ap length (none_listed profiles item.attrs))
+none_named profiles item (n ∷ ns) e = let none = eqb-true (length (n ∷ ns)) 0 e in absurd (omega (arith, none))

@@ -20,7 +20,7 @@ use Rattle.ocsf_event_rules.specs.Judged.{of_element}
 use Rattle.ocsf_event_rules.specs.Violations.{IsWrongSingle, IsNoKey}
 use Rattle.ocsf_event.specs.ByCode.{IsLimitBroken, BreaksLimit, IsWrongValue}
 use Rattle.ocsf_event.specs.Gains.{Gains, Each}
-use Rattle.ocsf_event.specs.Walk.{IsThis, IsWrongHere, IsBroken, InLimit, IsNoKeyHere, InKind}
+use Rattle.ocsf_event.specs.Walk.{IsThis, IsWrongHere, IsBroken, InLimit, IsStrange, IsNoKeyHere, InKind}
 use Rattle.ocsf_event.specs.declared.notes.Notes.{Notes}
 use Rattle.ocsf_event.specs.Noted.{Noted}
 use Rattle.ocsf_event.proofs.Gains.{gains_nothing, gains_alike}
@@ -159,21 +159,30 @@ module _ (schema : SchemaParts) (attr : Attr) (name : List ℕ) (value : Tree) (
 
 -- ---- the enumeration
 
-module _ (attr : Attr) (value : Tree) (place : List Step) (old new : List Violation) where
-  pub gains_no_key : (name : List ℕ) → enum_key value ≡ Some name → (IsOfEnumeration attr.members value → ⊥)
-      → Gains (IsThis place code.EnumUnknown name) old new → Gains (IsNoKeyHere attr value place) old new
-  gains_no_key name is apart g = gains_alike (IsThis place code.EnumUnknown name) (IsNoKeyHere attr value place) old new
-      (λ v this. (this.where_it_is, this.what_it_is, apart, is ∙ ap Some (sym this.told_as)))
-      (λ v w. record { where_it_is = w.0; what_it_is = w.1; told_as = same_Some v.detail name (sym w.3 ∙ is) }) g
-
-  pub gains_key : IsOfEnumeration attr.members value → Gains (IsNoKeyHere attr value place) old old
-  gains_key fits = gains_nothing (IsNoKeyHere attr value place) old (λ v w. w.2 fits)
-
 -- of an enumeration with members
-pub no_key_of : (members : List EnumMember) (value : Tree) (name : List ℕ) → members ≢ [] → enum_key value ≡ Some name → is_key members name ≡ false → IsOfEnumeration members value → ⊥
-no_key_of [] value name some is apart fits = some refl
-no_key_of (m ∷ ms) value name some is apart fits = true≢false (sym (subst (λ o. IfSome o (λ n. is_key (m ∷ ms) n ≡ true)) is fits) ∙ apart)
+pub no_key_of : (members : List EnumMember) (value : Tree) (word : List ℕ) → members ≢ [] → enum_key value ≡ Some word → is_key members word ≡ false → IsOfEnumeration members value → ⊥
+no_key_of [] value word some is apart fits = some refl
+no_key_of (m ∷ ms) value word some is apart fits = true≢false (sym (subst (λ o. IfSome o (λ n. is_key (m ∷ ms) n ≡ true)) is fits) ∙ apart)
 
-pub key_of : (members : List EnumMember) (value : Tree) (name : List ℕ) → enum_key value ≡ Some name → is_key members name ≡ true → IsOfEnumeration members value
-key_of [] value name is there = tt
-key_of (m ∷ ms) value name is there = subst (λ o. IfSome o (λ n. is_key (m ∷ ms) n ≡ true)) (sym is) there
+pub key_of : (members : List EnumMember) (value : Tree) (word : List ℕ) → enum_key value ≡ Some word → is_key members word ≡ true → IsOfEnumeration members value
+key_of [] value word is there = tt
+key_of (m ∷ ms) value word is there = subst (λ o. IfSome o (λ n. is_key (m ∷ ms) n ≡ true)) (sym is) there
+
+module _ (attr : Attr) (value : Tree) (place : List Step) (old new : List Violation) where
+  module _ (word : List ℕ) (some : attr.members ≢ []) (is : enum_key value ≡ Some word) where
+    strange : (b : Bool) (v : Violation) → is_key attr.members word ≡ b → IsNoKeyHere attr value place v → IsStrange attr.members word place v
+    strange true v there w = absurd (w.2 (key_of attr.members value word is there))
+    strange false v apart w = record {
+      strange = apart;
+      this = record { where_it_is = w.0; what_it_is = w.1; told_as = same_Some v.detail word (sym w.3 ∙ is) };
+    }
+
+    pub gains_word : Gains (IsStrange attr.members word place) old new → Gains (IsNoKeyHere attr value place) old new
+    gains_word g = gains_alike (IsStrange attr.members word place) (IsNoKeyHere attr value place) old new
+        (λ v w. (w.this.where_it_is, w.this.what_it_is, no_key_of attr.members value word some is w.strange, is ∙ ap Some (sym w.this.told_as)))
+        (λ v w. strange (is_key attr.members word) v refl w) g
+
+pub noted_strange : (members : List EnumMember) (word : List ℕ) (old new : Notes) → is_key members word ≡ false
+    → Noted (λ place. IsThis place code.EnumUnknown word) old new → Noted (IsStrange members word) old new
+noted_strange members word old new apart n = noted_as (λ place. IsThis place code.EnumUnknown word) (IsStrange members word) old new
+    (λ place v this. record { strange = apart; this = this }) (λ place v w. w.this) n

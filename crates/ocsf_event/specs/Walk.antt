@@ -6,6 +6,7 @@ use Rattle.ocsf_tree.specs.declared.tree.Tree.{Tree}
 use Rattle.ocsf_tree.specs.declared.tree.Member.{Member}
 use Rattle.ocsf_tree.specs.declared.place.Step.{Step}
 use Rattle.ocsf_tree.specs.declared.place.Step.TheVariants.{At, Name}
+use Rattle.ocsf_tree.specs.declared.attribute.EnumMember.{EnumMember}
 use Rattle.ocsf_tree.specs.declared.attribute.Requirement.TheVariants.{Required}
 use Rattle.ocsf_schema.specs.declared.records.Attr.{Attr}
 use Rattle.ocsf_schema.specs.declared.records.Item.{Item}
@@ -21,7 +22,7 @@ use Rattle.ocsf_event.specs.declared.violation.Violation.{Violation}
 use Rattle.ocsf_event_rules.specs.Profiles.{is_in_force, as_text, profile_list, is_profile}
 use Rattle.ocsf_event_rules.specs.EventClass.{is_null, as_object, value_of, whole_of, item_named, attribute_named}
 use Rattle.ocsf_schema.specs.declared.records.Limit.{Limit}
-use Rattle.ocsf_event_rules.specs.Conditions.{IsOfEnumeration, enum_key, expected_type, DoNumbersAgree}
+use Rattle.ocsf_event_rules.specs.Conditions.{IsOfEnumeration, enum_key, is_key, expected_type, DoNumbersAgree}
 use Rattle.ocsf_event_rules.specs.Judged.{Seen, ItemObject, with_item, object_seen, member_seen, seen_at}
 use Rattle.ocsf_event_rules.specs.Judged.{of_attribute, of_element}
 use Rattle.ocsf_event_rules.specs.Violations.{IsViolation, profile_place}
@@ -163,6 +164,11 @@ InLimit limit value place v = (v.place.steps ≡ place) × IsLimitBroken limit v
 
 abbrev pub InLimits : List Limit → Tree → List Step → Violation → Type 0
 InLimits limits value place v = Each (λ i limit. InLimit limit value place) limits v
+
+-- it is none of the keys
+pub record IsStrange (members : List EnumMember) (word : List ℕ) (place : List Step) (v : Violation) : Type 0 where
+  pub strange : is_key members word ≡ false
+  pub this : IsThis place EnumUnknown word v
 
 abbrev pub IsNoKeyHere : Attr → Tree → List Step → Violation → Type 0
 IsNoKeyHere attr value place v =

@@ -120,6 +120,9 @@ fn is_present(members: &[Member], attr: &Attr) -> bool
 fn count_listed(profiles: &[Text], item: &Item, names: &[Text]) -> usize
     ensures { result ≡ length (listed_in_force profiles.now item.now names.now) }
 {
+    if names.is_empty() {
+        return 0;
+    }
     let mut count = 0;
     for attr in item.attrs.as_slice() {
         if is_listed(profiles, names, attr) {

@@ -3,15 +3,16 @@ ghost use Rattle.std.specs.Prelude.{◌≡◌, OnOk, IfOk, IfSome, IsSomeAnd, Is
 ghost use Rattle.jiff.specs.Words.{parse_timestamp};
 ghost use Rattle.ocsf_tree.specs.Valid.{IsValid};
 ghost use Rattle.ocsf_event.specs.declared.violation.Wrong.TheVariants as code;
-ghost use Rattle.ocsf_event_rules.specs.Conditions.{IsOfBase, IsInstant, HasPattern, enum_key, is_key};
+ghost use Rattle.ocsf_event_rules.specs.Conditions.{IsOfBase, IsInstant, HasPattern, is_key};
 ghost use Rattle.ocsf_event_rules.specs.EventClass.{kind_named};
 ghost use Rattle.ocsf_event_rules.specs.Violations.{span_text};
 ghost use Rattle.ocsf_event.specs.Noted.{Noted};
-ghost use Rattle.ocsf_event.specs.Walk.{IsBroken, InLimit, InLimits, IsNoKeyHere, InKind};
+ghost use Rattle.ocsf_event.specs.Walk.{IsBroken, InLimit, InLimits, IsStrange, IsNoKeyHere, InKind};
 
 use crate::members::is_null;
 use crate::notes::Notes;
 use crate::violation::Wrong;
+use itoa::Buffer;
 use jiff::Timestamp;
 use ocsf_kind::{Which, breaks, fits_base};
 use ocsf_pattern::Patterns;
@@ -158,17 +159,6 @@ fn judge_limits(
     Ok(())
 }
 
-/// The key of an enumeration that the value is.
-fn enum_key(alloc: Global, value: &Tree) -> Result<Option<Text>, AllocError>
-    ensures { IfOk result (λ key. key ≡ enum_key value.now) }
-{
-    match value {
-        Tree::Whole(whole) => Ok(Some(Text::from_string(whole.to_string(alloc)?)?)),
-        Tree::Words(text) => Ok(Some(text.copy()?)),
-        _ => Ok(None),
-    }
-}
-
 fn is_key(members: &[EnumMember], name: &str) -> bool
     ensures { result ≡ is_key members.now name.now }
 {
@@ -180,19 +170,31 @@ fn is_key(members: &[EnumMember], name: &str) -> bool
     false
 }
 
+fn judge_word(members: &[EnumMember], word: &str, notes: &mut Notes) -> Result<(), AllocError>
+    ensures { OnOk result (Noted (IsStrange members.now word.now) notes.old notes.new) }
+{
+    if is_key(members, word) {
+        return Ok(());
+    }
+    notes.add(Wrong::EnumUnknown, word)
+}
+
+/// A whole number or a text has to be a key of the enumeration. It takes no memory where it is one.
 fn judge_key(attr: &Attr, value: &Tree, notes: &mut Notes) -> Result<(), AllocError>
     ensures { OnOk result (Noted (IsNoKeyHere attr.now value.now) notes.old notes.new) }
 {
     if attr.members.is_empty() {
         return Ok(());
     }
-    let Some(key) = enum_key(notes.allocator(), value)? else {
-        return Ok(());
-    };
-    if is_key(attr.members.as_slice(), key.as_str()) {
-        return Ok(());
+    let members = attr.members.as_slice();
+    match value {
+        Tree::Whole(whole) => {
+            let mut buffer = Buffer::new();
+            judge_word(members, buffer.format(*whole), notes)
+        }
+        Tree::Words(text) => judge_word(members, text.as_str(), notes),
+        _ => Ok(()),
     }
-    notes.add(Wrong::EnumUnknown, key.as_str())
 }
 
 /// The kind of that name, where the value is of its base.

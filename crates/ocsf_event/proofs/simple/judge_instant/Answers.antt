@@ -1,4 +1,4 @@
-use Rattle.std.proofs.Common.{◌≡◌, true≢false, sym, ◌∙◌}
+use Rattle.std.proofs.Common.{true≢false, sym, ◌∙◌}
 use Rattle.ocsf_event.specs.declared.violation.Wrong.TheVariants as code
 use Rattle.ocsf_event.proofs.GainedParts.{on_ok}
 use Rattle.ocsf_event.proofs.Kinded.{gains_broken}
