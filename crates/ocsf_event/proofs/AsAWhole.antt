@@ -9,7 +9,6 @@ use Rattle.ocsf_tree.specs.declared.tree.Tree.TheVariants as tree
 use Rattle.ocsf_tree.specs.declared.tree.Member.{Member}
 use Rattle.ocsf_tree.specs.Lookup.{members_of, member_of, member_in, member_at}
 use Rattle.ocsf_tree.proofs.WrittenOut.{out-Members}
-use Rattle.ocsf_tree.specs.declared.place.Step.{Step}
 use Rattle.ocsf_tree.specs.declared.place.Step.TheVariants.{Name}
 use Rattle.ocsf_schema.specs.declared.parts.SchemaParts.{SchemaParts}
 use Rattle.ocsf_event_rules.specs.Profiles.{as_text, as_list, is_profile, profile_list}
@@ -19,7 +18,7 @@ use Rattle.ocsf_event_rules.specs.Violations.{profile_place}
 use Rattle.ocsf_event.specs.declared.violation.Wrong.TheVariants as code
 use Rattle.ocsf_event.specs.declared.violation.Violation.{Violation}
 use Rattle.ocsf_event.specs.declared.notes.Notes.{Notes}
-use Rattle.ocsf_event.specs.Gains.{Gains, Each}
+use Rattle.ocsf_event.specs.Gains.{Gains}
 use Rattle.ocsf_event.specs.Noted.{Noted}
 use Rattle.ocsf_event.specs.Walk.{IsThis, IsMismatch, IsNoProfile, AreNoProfiles}
 use Rattle.ocsf_event.proofs.Gains.{gains_nothing, gains_alike}

@@ -1,5 +1,5 @@
 -- What lists gain along the walk, function by function.
-use Rattle.std.proofs.Common.{◌≡◌, ◌≢◌, ℕ, List, [], ◌∷◌, ◌++◌, Bool, true, false, true≢false, Option, Some, None, Result, Ok, Err, ◌⊎◌, inl, inr, refl, sym, ◌∙◌, ap, subst, if◌then◌else◌}
+use Rattle.std.proofs.Common.{◌≡◌, ◌≢◌, ℕ, List, [], true, false, true≢false, Some, None, Result, Ok, Err, sym, ◌∙◌, subst}
 use Rattle.std.specs.Prelude.{OnOk, IfOk, codes}
 use Rattle.std.proofs.lemmas.Option.{none-some, same_Some}
 use Rattle.ocsf_tree.specs.declared.tree.Tree.{Tree}
@@ -18,7 +18,7 @@ use Rattle.ocsf_event_rules.specs.EventClass.{as_object, is_null, value_of, attr
 use Rattle.ocsf_tree.specs.declared.attribute.Requirement.TheVariants.{Required}
 use Rattle.ocsf_event_rules.specs.Judged.{with_item, object_of, of_attribute, of_element}
 use Rattle.ocsf_event.specs.Gains.{Gains}
-use Rattle.ocsf_event.specs.Walk.{IsThis, IsWithin, InObject, InMember, Unknown, Known, InKnown, Off, On, InMembers, InItems, IsMissing, AreMissing, IsWrongWhole, IsWrongHere, WantsObject, IsUnfit, at_name_below}
+use Rattle.ocsf_event.specs.Walk.{IsThis, IsWithin, InObject, InMember, Unknown, Known, InKnown, Off, On, InItems, IsMissing, IsWrongHere, WantsObject, IsUnfit, at_name_below}
 use Rattle.ocsf_event.proofs.Gains.{gains_nothing, gains_alike}
 use Rattle.ocsf_event.proofs.Walks.{single_there, single_back, to_items, from_items, to_no_list, from_no_list, to_simple, from_simple, to_unfit, from_unfit, nothing_within, to_judged, from_judged}
 use Rattle.ocsf_event.proofs.Objects.{attr_name, Parts, to_parts, from_parts}

@@ -1,13 +1,12 @@
 -- What is wrong with a value of a kind, from its base, its limits and its enumeration.
-use Rattle.std.proofs.Common.{◌≡◌, ◌≢◌, true≢false, ℕ, List, [], ◌∷◌, ◌++◌, Bool, true, false, Option, Some, None, ◌⊎◌, inl, inr, refl, sym, ◌∙◌, ap, subst}
-use Rattle.std.specs.Prelude.{IsSomeAnd, IfSome, Contains, slice_get}
-use Rattle.std.proofs.lemmas.Option.{none-some, same_Some, slice_get_within, slice_get-get_or, get_or_from_slice_get}
+use Rattle.std.proofs.Common.{◌≡◌, ◌≢◌, true≢false, ℕ, List, [], ◌∷◌, Bool, true, false, Option, Some, None, ◌⊎◌, inl, inr, refl, sym, ◌∙◌, ap, subst}
+use Rattle.std.specs.Prelude.{IsSomeAnd, IfSome, Contains}
+use Rattle.std.proofs.lemmas.Option.{same_Some, slice_get_within, slice_get-get_or, get_or_from_slice_get}
 use Rattle.ocsf_tree.specs.declared.tree.Tree.{Tree}
 use Rattle.ocsf_tree.specs.declared.place.Step.{Step}
 use Rattle.ocsf_schema.specs.declared.records.Attr.{Attr}
 use Rattle.ocsf_schema.specs.declared.records.Kind.{Kind}
 use Rattle.ocsf_schema.specs.declared.records.Limit.{Limit}
-use Rattle.ocsf_schema.specs.declared.records.Target.{Target}
 use Rattle.ocsf_schema.specs.declared.records.Target.TheVariants as target
 use Rattle.ocsf_schema.specs.declared.parts.SchemaParts.{SchemaParts}
 use Rattle.ocsf_event.specs.declared.violation.Wrong.{Wrong}
@@ -17,9 +16,9 @@ use Rattle.ocsf_event_rules.specs.EventClass.{kind_named}
 use Rattle.ocsf_event_rules.specs.Conditions.{IsOfBase, IsOfEnumeration, enum_key, is_key}
 use Rattle.ocsf_tree.specs.declared.attribute.EnumMember.{EnumMember}
 use Rattle.ocsf_event_rules.specs.Judged.{of_element}
-use Rattle.ocsf_event_rules.specs.Violations.{IsWrongSingle, IsNoKey}
+use Rattle.ocsf_event_rules.specs.Violations.{IsWrongSingle}
 use Rattle.ocsf_event.specs.ByCode.{IsLimitBroken, BreaksLimit, IsWrongValue}
-use Rattle.ocsf_event.specs.Gains.{Gains, Each}
+use Rattle.ocsf_event.specs.Gains.{Gains}
 use Rattle.ocsf_event.specs.Walk.{IsThis, IsWrongHere, IsBroken, InLimit, IsStrange, IsNoKeyHere, InKind}
 use Rattle.ocsf_event.specs.declared.notes.Notes.{Notes}
 use Rattle.ocsf_event.specs.Noted.{Noted}

@@ -1,12 +1,11 @@
 -- What is wrong within an object, from what is wrong with each member and with the object as a whole.
-use Rattle.std.proofs.Common.{◌≡◌, ◌≢◌, ℕ, List, [], ◌∷◌, ◌++◌, Bool, true, false, true≢false, Option, Some, None, ◌⊎◌, inl, inr, refl, sym, ◌∙◌, ap, subst, if◌then◌else◌}
-use Rattle.std.specs.Prelude.{slice_get, IsSomeAnd, IsSome, is_some}
+use Rattle.std.proofs.Common.{◌≡◌, ℕ, List, [], Bool, true, false, true≢false, Option, Some, None, ◌⊎◌, inl, inr, refl, sym, ◌∙◌, ap, subst, if◌then◌else◌}
+use Rattle.std.specs.Prelude.{slice_get, IsSomeAnd, is_some}
 use Rattle.std.specs.Option.{option_map, option_and_then}
-use Rattle.std.proofs.lemmas.Option.{none-some, same_Some, option_and_then_some}
+use Rattle.std.proofs.lemmas.Option.{none-some, same_Some}
 use Rattle.ocsf_tree.specs.declared.tree.Tree.{Tree}
 use Rattle.ocsf_tree.specs.declared.tree.Member.{Member}
 use Rattle.ocsf_tree.specs.declared.place.Step.{Step}
-use Rattle.ocsf_tree.specs.declared.place.Step.TheVariants.{At, Name}
 use Rattle.ocsf_tree.specs.declared.attribute.Requirement.TheVariants.{Required}
 use Rattle.ocsf_lists.specs.ByName.{IsByName}
 use Rattle.ocsf_tree.specs.Valid.{IsValidMembers}
@@ -17,12 +16,11 @@ use Rattle.ocsf_event.specs.declared.violation.Wrong.{Wrong}
 use Rattle.ocsf_event.specs.declared.violation.Wrong.TheVariants as code
 use Rattle.ocsf_event.specs.declared.violation.Violation.{Violation}
 use Rattle.ocsf_event_rules.specs.Profiles.{is_in_force}
-use Rattle.ocsf_event_rules.specs.EventClass.{is_null, value_of, attribute_named}
-use Rattle.ocsf_event_rules.specs.Judged.{Seen, ItemObject, with_item, attribute_in_force, member_seen, of_attribute}
-use Rattle.ocsf_event.specs.ByCode.{IsWrongMember, IsWrongObject}
-use Rattle.ocsf_event.specs.Gains.{Each}
-use Rattle.ocsf_event.specs.Walk.{IsThis, IsWithin, InObject, AtMember, AtObject, BelowMember, InMember, Unknown, Known, InKnown, Off, On, InMembers, IsMissing, AreMissing, IsWrongWhole, at_name_below}
-use Rattle.ocsf_event.proofs.MemberValues.{IsThere, member_there, there_is, IsNamed, named_there, named_at}
+use Rattle.ocsf_event_rules.specs.EventClass.{value_of, attribute_named}
+use Rattle.ocsf_event_rules.specs.Judged.{Seen, ItemObject, with_item, attribute_in_force, of_attribute}
+use Rattle.ocsf_event.specs.ByCode.{IsWrongMember}
+use Rattle.ocsf_event.specs.Walk.{IsThis, IsWithin, InObject, AtMember, AtObject, BelowMember, InMember, Unknown, Known, Off, On, InMembers, IsMissing, AreMissing, IsWrongWhole, at_name_below}
+use Rattle.ocsf_event.proofs.MemberValues.{member_there, there_is, named_there, named_at}
 
 abbrev pub attr_name : Attr → List ℕ
 attr_name attr = attr.name

@@ -1,5 +1,5 @@
 -- From what the list of an event gains to its report.
-use Rattle.std.proofs.Common.{◌≡◌, ◌≢◌, ℕ, zero, suc, ◌<◌, length, get_or, List, [], ◌∷◌, ◌++◌, map, Bool, true, false, cond, true≢false, Option, Some, None, ◌⊎◌, inl, inr, refl, sym, ◌∙◌, ap, subst, arith}
+use Rattle.std.proofs.Common.{◌≡◌, ℕ, zero, suc, List, [], ◌∷◌, map, Option, Some, None, ◌⊎◌, inl, inr, refl, sym, ◌∙◌, ap, subst, arith}
 use Rattle.std.specs.Prelude.{AllPairs, Contains, codes, slice_get}
 use Rattle.std.specs.Option.{option_map, option_and_then}
 use Rattle.std.proofs.lemmas.List.Elements.{All-map}
@@ -25,7 +25,7 @@ use Rattle.ocsf_event_rules.specs.Violations.{IsViolation, IsReport, NoObject, N
 use Rattle.ocsf_event.specs.declared.notes.Notes.{Notes}
 use Rattle.ocsf_event.specs.Gains.{Gains}
 use Rattle.ocsf_event.specs.Noted.{Noted}
-use Rattle.ocsf_event.specs.Walk.{IsThis, IsWithin, InObject, IsWrong, IsAmiss}
+use Rattle.ocsf_event.specs.Walk.{IsThis, InObject, IsWrong, IsAmiss}
 use Rattle.ocsf_event.proofs.Gains.{gains_alike}
 use Rattle.ocsf_event.proofs.Walks.{class_seen, from_object, within_class}
 use Rattle.ocsf_event.proofs.Places.{is_violation, of_violation}

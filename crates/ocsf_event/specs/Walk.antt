@@ -1,5 +1,5 @@
 -- For private clauses: what is wrong with a value and below it, step by step.
-use Rattle.std.specs.Prelude.{◌≡◌, ◌≢◌, ℕ, ℤ, pos, negsuc, ◌<◌, ◌^◌, Bool, true, false, List, [], ◌∷◌, ◌++◌, Option}
+use Rattle.std.specs.Prelude.{◌≡◌, ◌≢◌, ℕ, ℤ, pos, negsuc, ◌<◌, ◌^◌, true, false, List, [], ◌∷◌, ◌++◌}
 use Rattle.std.specs.Prelude.{Some, None, ⊤, ◌⊎◌, codes}
 use Rattle.std.specs.Fmt.{signed_decimal}
 use Rattle.ocsf_tree.specs.declared.tree.Tree.{Tree}
@@ -23,7 +23,7 @@ use Rattle.ocsf_event_rules.specs.Profiles.{is_in_force, as_text, profile_list, 
 use Rattle.ocsf_event_rules.specs.EventClass.{is_null, as_object, value_of, whole_of, item_named, attribute_named}
 use Rattle.ocsf_schema.specs.declared.records.Limit.{Limit}
 use Rattle.ocsf_event_rules.specs.Conditions.{IsOfEnumeration, enum_key, is_key, expected_type, DoNumbersAgree}
-use Rattle.ocsf_event_rules.specs.Judged.{Seen, ItemObject, with_item, object_seen, member_seen, seen_at}
+use Rattle.ocsf_event_rules.specs.Judged.{Seen, ItemObject, object_seen, member_seen, seen_at}
 use Rattle.ocsf_event_rules.specs.Judged.{of_attribute, of_element}
 use Rattle.ocsf_event_rules.specs.Violations.{IsViolation, profile_place}
 use Rattle.ocsf_event.specs.Code.{rank}

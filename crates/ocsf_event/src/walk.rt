@@ -99,8 +99,8 @@ fn judge_known(
     notes: &mut Notes,
 ) -> Result<(), AllocError>
     requires valid { IsValid member.now.value }
-    ensures { OnOk result (Noted (λ place. InKnown judge.now.schema.now judge.now.profiles.now attr.now member.now.value
-        (at_name_below place member.now.name)) notes.old notes.new) }
+    ensures { OnOk result (Noted (λ place. InKnown judge.now.schema.now judge.now.profiles.now attr.now
+        member.now.value (at_name_below place member.now.name)) notes.old notes.new) }
 {
     if is_in_force(judge.profiles, attr) {
         notes.enter_member(&member.name)?;

@@ -1,4 +1,4 @@
-use Rattle.std.proofs.Common.{◌≡◌, ◌⊎◌, [], Some, subst}
+use Rattle.std.proofs.Common.{◌⊎◌, subst}
 use Rattle.ocsf_tree.specs.declared.tree.Tree.TheVariants as tree
 use Rattle.ocsf_event_rules.specs.Profiles.{named_profiles}
 use Rattle.ocsf_event_rules.specs.Judged.{with_item}

@@ -1,9 +1,5 @@
-use Rattle.std.proofs.Common.{List, ◌≡◌, map, sym, subst}
+use Rattle.std.proofs.Common.{List}
 use Rattle.ocsf_event.specs.declared.violation.Violation.{Violation}
-use Rattle.ocsf_event.specs.Code.{told_violation}
-use Rattle.ocsf_event.specs.Gains.{Gains}
-use Rattle.ocsf_event_rules.specs.Violations.{IsReport}
-use Rattle.ocsf_event.specs.Walk.{IsWrong}
 use Rattle.ocsf_event.proofs.GainedParts.{if_ok}
 use Rattle.ocsf_event.proofs.OverFiles.{empty_over_files}
 use Rattle.ocsf_event.proofs.Reports.{reported}

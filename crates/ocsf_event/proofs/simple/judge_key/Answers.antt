@@ -1,4 +1,4 @@
-use Rattle.std.proofs.Common.{◌≡◌, ◌≢◌, true≢false, ℕ, List, [], Some, sym, ap, ◌∙◌, subst, rules}
+use Rattle.std.proofs.Common.{◌≡◌, ◌≢◌, true≢false, List, [], Some, sym, ap, ◌∙◌, subst, rules}
 use Rattle.std.specs.Fmt.{signed_decimal}
 use Rattle.ocsf_tree.specs.declared.attribute.EnumMember.{EnumMember}
 use Rattle.ocsf_tree.specs.declared.tree.Tree.{out-Tree, the_lemmas}

@@ -1,5 +1,5 @@
-use Rattle.std.specs.Prelude.{codes, IsSomeAnd}
-use Rattle.std.proofs.Common.{◌≡◌, ℕ, List, true≢false, ◌≤◌, ◌⊎◌, length, drop, Some, None, refl, sym, ap, ◌∙◌, subst, arith, rules}
+use Rattle.std.specs.Prelude.{IsSomeAnd}
+use Rattle.std.proofs.Common.{◌≡◌, ℕ, List, true≢false, ◌≤◌, ◌⊎◌, length, Some, None, refl, sym, ap, ◌∙◌, subst, arith, rules}
 use Rattle.std.proofs.lemmas.Grind.{common_steps}
 use Rattle.std.proofs.lemmas.Option.{slice_get_read}
 use Rattle.ocsf_tree.specs.declared.tree.Tree.{out-Tree, the_lemmas}
@@ -7,14 +7,14 @@ use Rattle.ocsf_tree.specs.declared.tree.Tree.TheOpen.{Tree-F}
 use Rattle.ocsf_tree.specs.declared.place.Step.TheVariants.{At, Name}
 use Rattle.ocsf_tree.proofs.Valid.{rest_items_valid, rest_members_valid}
 use Rattle.ocsf_event.specs.declared.violation.Wrong.TheVariants as code
-use Rattle.ocsf_event_rules.specs.Profiles.{as_list, is_in_force}
+use Rattle.ocsf_event_rules.specs.Profiles.{as_list}
 use Rattle.ocsf_event_rules.specs.Conditions.{IsOfBase}
-use Rattle.ocsf_event_rules.specs.EventClass.{as_object, is_null, attribute_named, kind_named}
+use Rattle.ocsf_event_rules.specs.EventClass.{as_object, attribute_named, kind_named}
 use Rattle.ocsf_tree.specs.Lookup.{members_of, items_of}
 use Rattle.ocsf_event_rules.specs.Judged.{object_of, of_element, of_attribute, with_item}
 use Rattle.ocsf_event.specs.Noted.{Noted}
-use Rattle.ocsf_event.specs.Walk.{IsThis, IsWithin, InKnown, InMember, InMembers, InItem, InItems, InObject, IsUnfit, AreMissing, IsWrongWhole, at_name_below}
-use Rattle.ocsf_event.proofs.GainedParts.{on_ok, gains_off, gains_on, gains_known, gains_unknown, gains_single, gains_items, gains_no_list, gains_simple, gains_unfit, gains_any, gains_judged, gains_object}
+use Rattle.ocsf_event.specs.Walk.{IsThis, IsWithin, InMember, InMembers, InItem, AreMissing, IsWrongWhole, at_name_below}
+use Rattle.ocsf_event.proofs.GainedParts.{on_ok, gains_off, gains_on, gains_known, gains_unknown, gains_single, gains_items, gains_no_list, gains_simple, gains_unfit, gains_judged, gains_object}
 use Rattle.ocsf_event.proofs.Kinded.{gains_base, gains_kind}
 use Rattle.ocsf_event.proofs.Noted.{noted_by, noted_both, noted_below, noted_begins, noted_more, noted_ends}
 use Rattle.ocsf_event.proofs.Walks.{unfit_none, unfit_unnamed}
