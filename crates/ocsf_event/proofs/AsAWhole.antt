@@ -1,20 +1,25 @@
 -- What is wrong with an event as a whole.
 use Rattle.std.proofs.Common.{◌≡◌, ℕ, ℤ, List, [], ◌∷◌, true, false, true≢false, refl, sym, ◌∙◌, ap, subst}
-use Rattle.std.specs.Prelude.{Option, Some, None, IfSome, codes}
+use Rattle.std.specs.Prelude.{Option, Some, None, IfSome, codes, unwrap_or}
+use Rattle.std.specs.Option.{option_and_then}
 use Rattle.std.specs.Fmt.{signed_decimal}
 use Rattle.std.proofs.lemmas.Option.{none-some, same_Some}
 use Rattle.ocsf_tree.specs.declared.tree.Tree.{Tree}
+use Rattle.ocsf_tree.specs.declared.tree.Tree.TheVariants as tree
 use Rattle.ocsf_tree.specs.declared.tree.Member.{Member}
-use Rattle.ocsf_tree.specs.declared.place.Step.{Step}
+use Rattle.ocsf_tree.specs.Lookup.{members_of, member_of, member_in, member_at}
+use Rattle.ocsf_tree.proofs.WrittenOut.{out-Members}
 use Rattle.ocsf_tree.specs.declared.place.Step.TheVariants.{Name}
 use Rattle.ocsf_schema.specs.declared.parts.SchemaParts.{SchemaParts}
-use Rattle.ocsf_event_rules.specs.Profiles.{as_text, is_profile}
-use Rattle.ocsf_event_rules.specs.EventClass.{whole_of}
+use Rattle.ocsf_event_rules.specs.Profiles.{as_text, as_list, is_profile, profile_list}
+use Rattle.ocsf_event_rules.specs.EventClass.{as_object, whole_of}
 use Rattle.ocsf_event_rules.specs.Conditions.{expected_type, DoNumbersAgree}
 use Rattle.ocsf_event_rules.specs.Violations.{profile_place}
 use Rattle.ocsf_event.specs.declared.violation.Wrong.TheVariants as code
 use Rattle.ocsf_event.specs.declared.violation.Violation.{Violation}
-use Rattle.ocsf_event.specs.Gains.{Gains, Each}
+use Rattle.ocsf_event.specs.declared.notes.Notes.{Notes}
+use Rattle.ocsf_event.specs.Gains.{Gains}
+use Rattle.ocsf_event.specs.Noted.{Noted}
 use Rattle.ocsf_event.specs.Walk.{IsThis, IsMismatch, IsNoProfile, AreNoProfiles}
 use Rattle.ocsf_event.proofs.Gains.{gains_nothing, gains_alike}
 
@@ -80,3 +85,16 @@ module _ (schema : SchemaParts) (position : ℕ) (item : Tree) where
 
 pub gains_no_profiles : (schema : SchemaParts) (old : List Violation) → Gains (AreNoProfiles schema []) old old
 gains_no_profiles schema old = gains_nothing (AreNoProfiles schema []) old (λ v e. none-some e.item e.found)
+
+pub noted_no_profiles : (schema : SchemaParts) (notes : Notes) → Noted (λ place. AreNoProfiles schema []) notes notes
+noted_no_profiles schema notes = record { gained = gains_no_profiles schema notes.found; stayed = refl }
+
+-- ---- an event of these members
+
+pub is_object : (members : List Member) → as_object (tree.Members members) ≡ Some members
+is_object members = ap members_of (out-Members members)
+
+pub event_list : (members : List Member) → profile_list (tree.Members members)
+    ≡ unwrap_or (option_and_then as_list (option_and_then (member_at (codes "profiles")) (member_in (codes "metadata") members))) []
+event_list members =
+    ap (λ t. unwrap_or (option_and_then as_list (option_and_then (member_at (codes "profiles")) (member_of (codes "metadata") t))) []) (out-Members members)

@@ -1,24 +1,18 @@
 -- What is wrong, told by the code and told by its rank, is the same.
-use Rattle.std.proofs.Common.{◌≡◌, ◌≢◌, ℕ, ℤ, zero, suc, List, [], ◌∷◌, true, false, refl, sym, ◌∙◌, ap, subst, ◌⊎◌, inl, inr}
-use Rattle.std.specs.Prelude.{Option, Some, None, IsSome, IsSomeAnd, Contains, decimal, codes, slice_get}
-use Rattle.std.specs.Fmt.{signed_decimal}
+use Rattle.std.proofs.Common.{◌≡◌, ℕ, List, [], true, false, refl, sym, ◌∙◌, ap, subst, inl, inr}
+use Rattle.std.specs.Prelude.{Option, Some, None, IsSomeAnd, decimal, slice_get}
 use Rattle.std.specs.Option.{option_map, option_and_then}
 use Rattle.std.proofs.lemmas.Option.{none-some, same_Some}
 use Rattle.ocsf_tree.specs.declared.tree.Tree.{Tree}
 use Rattle.ocsf_tree.specs.declared.tree.Member.{Member}
 use Rattle.ocsf_tree.specs.declared.place.Step.{Step}
-use Rattle.ocsf_tree.specs.declared.place.Step.TheVariants.{Name}
 use Rattle.ocsf_tree.specs.declared.attribute.Requirement.TheVariants.{Required}
-use Rattle.ocsf_tree.specs.declared.attribute.Span.{Span}
-use Rattle.ocsf_schema.specs.declared.records.Attr.{Attr}
-use Rattle.ocsf_schema.specs.declared.records.Kind.{Kind}
 use Rattle.ocsf_schema.specs.declared.records.Limit.{Limit}
 use Rattle.ocsf_schema.specs.declared.records.Target.{Target}
 use Rattle.ocsf_schema.specs.declared.records.Target.TheVariants as target
 use Rattle.ocsf_schema.specs.declared.parts.SchemaParts.{SchemaParts}
-use Rattle.ocsf_event_rules.specs.Profiles.{is_in_force, as_text, profile_list, is_profile}
+use Rattle.ocsf_event_rules.specs.Profiles.{is_in_force, as_text, profile_list}
 use Rattle.ocsf_event_rules.specs.EventClass.{kind_named, attribute_named}
-use Rattle.ocsf_event_rules.specs.Conditions.{IsOfBase, expected_type}
 use Rattle.ocsf_event_rules.specs.Judged.{Seen, ItemObject, single_attr}
 use Rattle.ocsf_event_rules.specs.Violations as rules
 use Rattle.ocsf_event_rules.specs.Violations.{span_text, profile_place}
@@ -27,8 +21,7 @@ use Rattle.ocsf_event.specs.declared.violation.Wrong.TheVariants as code
 use Rattle.ocsf_event.specs.declared.violation.Violation.{Violation}
 use Rattle.ocsf_event.specs.Code.{rank}
 use Rattle.ocsf_event.specs.ByCode.{IsLimitBroken, BreaksLimit, IsWrongValue, IsWrongMember, IsWrongObject}
-use Rattle.ocsf_event.specs.Gains.{Each}
-use Rattle.ocsf_event.specs.Walk.{IsThis, IsMismatch, IsNoProfile, IsAmiss}
+use Rattle.ocsf_event.specs.Walk.{IsThis, IsAmiss}
 use Rattle.ocsf_event.proofs.OneOrder.{same_rank}
 
 -- what holds of the code of that rank

@@ -1,10 +1,14 @@
 -- The constraints of an object.
-use Rattle.std.proofs.Common.{◌≡◌, ℕ, zero, suc, ◌+◌, length, List, [], ◌∷◌, ◌++◌, Bool, true, false, cond, true≢false, ◌⊎◌, inl, inr, refl, sym, ◌∙◌, ap, subst, arith}
+use Rattle.std.proofs.Common.{◌≡◌, ℕ, length, List, [], ◌∷◌, ◌++◌, true, true≢false, ◌⊎◌, inl, inr, refl, sym, ◌∙◌, ap, subst, arith}
+use Rattle.std.specs.Prelude.{filter, ◌&&◌, ◌==◌}
 use Rattle.std.specs.List.{join_with_byte}
 use Rattle.std.proofs.lemmas.List.{append_assoc}
 use Rattle.std.proofs.lemmas.Bool.{eqb-true, eq-eqb}
 use Rattle.ocsf_tree.specs.declared.tree.Member.{Member}
 use Rattle.ocsf_schema.specs.declared.records.Attr.{Attr}
+use Rattle.ocsf_schema.specs.declared.records.Item.{Item}
+use Rattle.ocsf_lists.specs.Among.{is_among}
+use Rattle.ocsf_event_rules.specs.Profiles.{is_in_force}
 use Rattle.ocsf_event_rules.specs.Conditions.{listed_in_force, count_present, HasOneOrMore, HasJustOne}
 use Rattle.ocsf_tree.specs.declared.place.Step.{Step}
 use Rattle.ocsf_event.specs.declared.violation.Wrong.{Wrong}
@@ -15,7 +19,7 @@ use Rattle.ocsf_event_rules.specs.Violations.{comma}
 use Rattle.ocsf_event.specs.ByCode.{IsWrongObject}
 use Rattle.ocsf_event.specs.Gains.{Gains}
 use Rattle.ocsf_event.specs.Walk.{IsThis, IsWrongWhole, IsTooFew, IsNotOne}
-use Rattle.ocsf_event.proofs.Gains.{gains_alike, gains_both}
+use Rattle.ocsf_event.proofs.Gains.{gains_alike}
 
 module _ (profiles : List (List ℕ)) (object : ItemObject) (place : List Step) where
   abbrev Two : Violation → Type 0
@@ -30,9 +34,8 @@ module _ (profiles : List (List ℕ)) (object : ItemObject) (place : List Step) 
   of_two v (inl w) = (w.0, subst (λ c. IsWrongObject profiles object c v.detail) (sym w.1) w.2)
   of_two v (inr w) = (w.0, subst (λ c. IsWrongObject profiles object c v.detail) (sym w.1) w.2)
 
-  pub gains_whole : (old mid new : List Violation) → Gains (IsTooFew profiles object place) old mid → Gains (IsNotOne profiles object place) mid new → Gains (IsWrongWhole profiles object place) old new
-  gains_whole old mid new g h = gains_alike Two (IsWrongWhole profiles object place) old new of_two (λ v w. to_two v v.code refl w.0 w.1)
-      (gains_both (IsTooFew profiles object place) (IsNotOne profiles object place) old mid new g h)
+  pub gains_whole : (old new : List Violation) → Gains Two old new → Gains (IsWrongWhole profiles object place) old new
+  gains_whole old new g = gains_alike Two (IsWrongWhole profiles object place) old new of_two (λ v w. to_two v v.code refl w.0 w.1) g
 
   pub gains_too_few : (old new : List Violation) → (HasOneOrMore object.members (listed_in_force profiles object.item object.item.at_least_one) → ⊥)
       → Gains (IsThis place code.AtLeastOne (join_with_byte comma object.item.at_least_one)) old new → Gains (IsTooFew profiles object place) old new
@@ -57,3 +60,12 @@ not_one members (a ∷ rest) some many has = many (eqb-true (count_present membe
 pub join_more : (c : ℕ) (x : List ℕ) (xs : List (List ℕ)) (y : List ℕ) → join_with_byte c (x ∷ (xs ++ y ∷ [])) ≡ join_with_byte c (x ∷ xs) ++ c ∷ y
 join_more c x [] y = refl
 join_more c x (z ∷ zs) y = ap (λ (l : List ℕ). x ++ c ∷ l) (join_more c z zs y) ∙ sym (append_assoc x (c ∷ join_with_byte c (z ∷ zs)) (c ∷ y))
+
+-- of no names none is listed
+none_listed : (profiles : List (List ℕ)) (attrs : List Attr) → filter (λ (a : Attr). is_among a.name [] && is_in_force profiles a) attrs ≡ []
+none_listed profiles [] = refl
+none_listed profiles (a ∷ attrs) = none_listed profiles attrs
+
+pub none_named : (profiles : List (List ℕ)) (item : Item) (names : List (List ℕ)) → (length names == 0) ≡ true → 0 ≡ length (listed_in_force profiles item names)
+none_named profiles item [] e = sym (ap length (none_listed profiles item.attrs))
+none_named profiles item (n ∷ ns) e = let none = eqb-true (length (n ∷ ns)) 0 e in absurd (omega (arith, none))

@@ -1,5 +1,5 @@
 -- What lists gain along the walk, function by function.
-use Rattle.std.proofs.Common.{◌≡◌, ◌≢◌, ℕ, List, [], ◌∷◌, ◌++◌, Bool, true, false, true≢false, Option, Some, None, Result, Ok, Err, ◌⊎◌, inl, inr, refl, sym, ◌∙◌, ap, subst, if◌then◌else◌}
+use Rattle.std.proofs.Common.{◌≡◌, ◌≢◌, ℕ, List, [], true, false, true≢false, Some, None, Result, Ok, Err, sym, ◌∙◌, subst}
 use Rattle.std.specs.Prelude.{OnOk, IfOk, codes}
 use Rattle.std.proofs.lemmas.Option.{none-some, same_Some}
 use Rattle.ocsf_tree.specs.declared.tree.Tree.{Tree}
@@ -18,10 +18,10 @@ use Rattle.ocsf_event_rules.specs.EventClass.{as_object, is_null, value_of, attr
 use Rattle.ocsf_tree.specs.declared.attribute.Requirement.TheVariants.{Required}
 use Rattle.ocsf_event_rules.specs.Judged.{with_item, object_of, of_attribute, of_element}
 use Rattle.ocsf_event.specs.Gains.{Gains}
-use Rattle.ocsf_event.specs.Walk.{IsThis, IsWithin, InObject, InMember, Unknown, Known, InKnown, Off, On, InMembers, InItems, IsMissing, AreMissing, IsWrongWhole, IsWrongHere, WantsObject, IsUnfit, at_name_below}
-use Rattle.ocsf_event.proofs.Gains.{gains_nothing, gains_alike, gains_both}
+use Rattle.ocsf_event.specs.Walk.{IsThis, IsWithin, InObject, InMember, Unknown, Known, InKnown, Off, On, InItems, IsMissing, IsWrongHere, WantsObject, IsUnfit, at_name_below}
+use Rattle.ocsf_event.proofs.Gains.{gains_nothing, gains_alike}
 use Rattle.ocsf_event.proofs.Walks.{single_there, single_back, to_items, from_items, to_no_list, from_no_list, to_simple, from_simple, to_unfit, from_unfit, nothing_within, to_judged, from_judged}
-use Rattle.ocsf_event.proofs.Objects.{attr_name, to_parts, from_parts}
+use Rattle.ocsf_event.proofs.Objects.{attr_name, Parts, to_parts, from_parts}
 
 pub on_ok : {X E P Q : Type 0} (r : Result X E) → OnOk r P → (P → Q) → OnOk r Q
 on_ok (Ok x) p f = f p
@@ -35,9 +35,9 @@ if_ok (Err e) p f = tt
 
 pub gains_missing : (profiles : List (List ℕ)) (members : List Member) (place : List Step) (attr : Attr) (old new : List Violation)
     → value_of attr.name members ≡ None → is_in_force profiles attr ≡ true → attr.requirement ≡ Required
-    → Gains (IsThis (at_name_below place attr.name) code.RequiredMissing []) old new → Gains (IsMissing profiles members place attr) old new
+    → Gains (IsThis (at_name_below place attr.name) code.RequiredMissing []) old new → Gains (IsMissing profiles members attr place) old new
 gains_missing profiles members place attr old new none force wanted g =
-    gains_alike (IsThis (at_name_below place attr.name) code.RequiredMissing []) (IsMissing profiles members place attr) old new
+    gains_alike (IsThis (at_name_below place attr.name) code.RequiredMissing []) (IsMissing profiles members attr place) old new
     (λ v it. record { absent = none; in_force = force; required = wanted; this = it }) (λ v missing. missing.this) g
 
 module _ (schema : SchemaParts) (profiles : List (List ℕ)) (old new : List Violation) where
@@ -65,35 +65,35 @@ module _ (schema : SchemaParts) (profiles : List (List ℕ)) (old new : List Vio
 
   module _ (item : Item) (place : List Step) (m : Member) where
     pub gains_known : (attr : Attr) → is_null m.value ≡ false → attribute_named item m.name ≡ Some attr
-        → Gains (InKnown schema profiles attr m.value (at_name_below place m.name)) old new → Gains (InMember schema profiles item place m) old new
+        → Gains (InKnown schema profiles attr m.value (at_name_below place m.name)) old new → Gains (InMember schema profiles item m place) old new
     gains_known attr given named g =
-        gains_alike (InKnown schema profiles attr m.value (at_name_below place m.name)) (InMember schema profiles item place m) old new (λ v w. Known attr given named w) back g
+        gains_alike (InKnown schema profiles attr m.value (at_name_below place m.name)) (InMember schema profiles item m place) old new (λ v w. Known attr given named w) back g
       where
-        back : (v : Violation) → InMember schema profiles item place m v → InKnown schema profiles attr m.value (at_name_below place m.name) v
+        back : (v : Violation) → InMember schema profiles item m place v → InKnown schema profiles attr m.value (at_name_below place m.name) v
         back v (Unknown is some none this) = absurd (none-some attr (sym none ∙ named))
         back v (Known other is found w) =
             subst (λ a. InKnown schema profiles a m.value (at_name_below place m.name) v) (same_Some other attr (sym found ∙ named)) w
 
     pub gains_unknown : is_null m.value ≡ false → item.attrs ≢ [] → attribute_named item m.name ≡ None
-        → Gains (IsThis (at_name_below place m.name) code.AttributeUnknown []) old new → Gains (InMember schema profiles item place m) old new
+        → Gains (IsThis (at_name_below place m.name) code.AttributeUnknown []) old new → Gains (InMember schema profiles item m place) old new
     gains_unknown given some none g =
-        gains_alike (IsThis (at_name_below place m.name) code.AttributeUnknown []) (InMember schema profiles item place m) old new (λ v this. Unknown given some none this) back g
+        gains_alike (IsThis (at_name_below place m.name) code.AttributeUnknown []) (InMember schema profiles item m place) old new (λ v this. Unknown given some none this) back g
       where
-        back : (v : Violation) → InMember schema profiles item place m v → IsThis (at_name_below place m.name) code.AttributeUnknown [] v
+        back : (v : Violation) → InMember schema profiles item m place v → IsThis (at_name_below place m.name) code.AttributeUnknown [] v
         back v (Unknown is more nameless this) = this
         back v (Known other is found w) = absurd (none-some other (sym none ∙ found))
 
-    pub gains_absent : is_null m.value ≡ true → Gains (InMember schema profiles item place m) old old
-    gains_absent null = gains_nothing (InMember schema profiles item place m) old none
+    pub gains_absent : is_null m.value ≡ true → Gains (InMember schema profiles item m place) old old
+    gains_absent null = gains_nothing (InMember schema profiles item m place) old none
       where
-        none : (v : Violation) → InMember schema profiles item place m v → ⊥
+        none : (v : Violation) → InMember schema profiles item m place v → ⊥
         none v (Unknown is some nameless this) = true≢false (sym null ∙ is)
         none v (Known other is found w) = true≢false (sym null ∙ is)
 
-    pub gains_open : item.attrs ≡ [] → attribute_named item m.name ≡ None → Gains (InMember schema profiles item place m) old old
-    gains_open open_item nameless = gains_nothing (InMember schema profiles item place m) old none
+    pub gains_open : item.attrs ≡ [] → attribute_named item m.name ≡ None → Gains (InMember schema profiles item m place) old old
+    gains_open open_item nameless = gains_nothing (InMember schema profiles item m place) old none
       where
-        none : (v : Violation) → InMember schema profiles item place m v → ⊥
+        none : (v : Violation) → InMember schema profiles item m place v → ⊥
         none v (Unknown is some named this) = some open_item
         none v (Known other is found w) = none-some other (sym nameless ∙ found)
 
@@ -105,8 +105,8 @@ module _ (schema : SchemaParts) (profiles : List (List ℕ)) (old new : List Vio
       (λ v w. single_back schema profiles attr value one place v w) (λ v w. single_there schema profiles attr value one place v w) g
 
   pub gains_items : (attr : Attr) (value : Tree) (place : List Step) (items : List Tree) → attr.is_array ≡ true → as_list value ≡ Some items
-      → Gains (InItems schema profiles attr place items) old new → Gains (IsWithin schema profiles (of_attribute attr value) place) old new
-  gains_items attr value place items array is g = gains_alike (InItems schema profiles attr place items) (IsWithin schema profiles (of_attribute attr value) place) old new
+      → Gains (InItems schema profiles attr items place) old new → Gains (IsWithin schema profiles (of_attribute attr value) place) old new
+  gains_items attr value place items array is g = gains_alike (InItems schema profiles attr items place) (IsWithin schema profiles (of_attribute attr value) place) old new
       (λ v w. from_items schema profiles attr value array items is place v w) (λ v w. to_items schema profiles attr value array items is place v w) g
 
   pub gains_no_list : (attr : Attr) (value : Tree) (place : List Step) → attr.is_array ≡ true → as_list value ≡ None
@@ -136,12 +136,7 @@ module _ (schema : SchemaParts) (profiles : List (List ℕ)) (old new : List Vio
 
   -- ---- an object
 
-  pub gains_object : (item : Item) (members : List Member) (place : List Step) (first second : List Violation) → IsValidMembers members → IsByName attr_name item.attrs
-      → Gains (InMembers schema profiles item place members) old first → Gains (AreMissing profiles item members place) first second
-      → Gains (IsWrongWhole profiles (with_item item members) place) second new → Gains (InObject schema profiles (with_item item members) place) old new
-  gains_object item members place first second valid ordered g h k = gains_alike
-      (λ v. InMembers schema profiles item place members v ⊎ (AreMissing profiles item members place v ⊎ IsWrongWhole profiles (with_item item members) place v))
-      (InObject schema profiles (with_item item members) place) old new
-      (λ v w. from_parts schema profiles item members place v valid ordered w) (λ v w. to_parts schema profiles item members place v w)
-      (gains_both (InMembers schema profiles item place members) (λ v. AreMissing profiles item members place v ⊎ IsWrongWhole profiles (with_item item members) place v) old first new g
-      (gains_both (AreMissing profiles item members place) (IsWrongWhole profiles (with_item item members) place) first second new h k))
+  pub gains_object : (item : Item) (members : List Member) (place : List Step) → IsValidMembers members → IsByName attr_name item.attrs
+      → Gains (Parts schema profiles item members place) old new → Gains (InObject schema profiles (with_item item members) place) old new
+  gains_object item members place valid ordered g = gains_alike (Parts schema profiles item members place) (InObject schema profiles (with_item item members) place) old new
+      (λ v w. from_parts schema profiles item members place v valid ordered w) (λ v w. to_parts schema profiles item members place v w) g

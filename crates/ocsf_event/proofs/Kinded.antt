@@ -1,13 +1,12 @@
 -- What is wrong with a value of a kind, from its base, its limits and its enumeration.
-use Rattle.std.proofs.Common.{◌≡◌, ◌≢◌, true≢false, ℕ, List, [], ◌∷◌, ◌++◌, Bool, true, false, Option, Some, None, ◌⊎◌, inl, inr, refl, sym, ◌∙◌, ap, subst}
-use Rattle.std.specs.Prelude.{IsSomeAnd, IfSome, Contains, slice_get}
-use Rattle.std.proofs.lemmas.Option.{none-some, same_Some, slice_get_within, slice_get-get_or, get_or_from_slice_get}
+use Rattle.std.proofs.Common.{◌≡◌, ◌≢◌, true≢false, ℕ, List, [], ◌∷◌, Bool, true, false, Option, Some, None, ◌⊎◌, inl, inr, refl, sym, ◌∙◌, ap, subst}
+use Rattle.std.specs.Prelude.{IsSomeAnd, IfSome, Contains}
+use Rattle.std.proofs.lemmas.Option.{same_Some, slice_get_within, slice_get-get_or, get_or_from_slice_get}
 use Rattle.ocsf_tree.specs.declared.tree.Tree.{Tree}
 use Rattle.ocsf_tree.specs.declared.place.Step.{Step}
 use Rattle.ocsf_schema.specs.declared.records.Attr.{Attr}
 use Rattle.ocsf_schema.specs.declared.records.Kind.{Kind}
 use Rattle.ocsf_schema.specs.declared.records.Limit.{Limit}
-use Rattle.ocsf_schema.specs.declared.records.Target.{Target}
 use Rattle.ocsf_schema.specs.declared.records.Target.TheVariants as target
 use Rattle.ocsf_schema.specs.declared.parts.SchemaParts.{SchemaParts}
 use Rattle.ocsf_event.specs.declared.violation.Wrong.{Wrong}
@@ -17,11 +16,14 @@ use Rattle.ocsf_event_rules.specs.EventClass.{kind_named}
 use Rattle.ocsf_event_rules.specs.Conditions.{IsOfBase, IsOfEnumeration, enum_key, is_key}
 use Rattle.ocsf_tree.specs.declared.attribute.EnumMember.{EnumMember}
 use Rattle.ocsf_event_rules.specs.Judged.{of_element}
-use Rattle.ocsf_event_rules.specs.Violations.{IsWrongSingle, IsNoKey}
+use Rattle.ocsf_event_rules.specs.Violations.{IsWrongSingle}
 use Rattle.ocsf_event.specs.ByCode.{IsLimitBroken, BreaksLimit, IsWrongValue}
-use Rattle.ocsf_event.specs.Gains.{Gains, Each}
-use Rattle.ocsf_event.specs.Walk.{IsThis, IsWrongHere, IsBroken, InLimit, InLimits, IsNoKeyHere}
-use Rattle.ocsf_event.proofs.Gains.{gains_nothing, gains_alike, gains_both}
+use Rattle.ocsf_event.specs.Gains.{Gains}
+use Rattle.ocsf_event.specs.Walk.{IsThis, IsWrongHere, IsBroken, InLimit, IsStrange, IsNoKeyHere, InKind}
+use Rattle.ocsf_event.specs.declared.notes.Notes.{Notes}
+use Rattle.ocsf_event.specs.Noted.{Noted}
+use Rattle.ocsf_event.proofs.Gains.{gains_nothing, gains_alike}
+use Rattle.ocsf_event.proofs.Noted.{noted_as, noted_both}
 
 -- ---- a part of a limit
 
@@ -37,38 +39,47 @@ module _ (limit : Limit) (value : Tree) (place : List Step) (old new : List Viol
 
 -- ---- a limit is its five parts
 
-module _ (limit : Limit) (value : Tree) (place : List Step) where
-  abbrev Part : Wrong → Violation → Type 0
-  Part c v = IsBroken c limit value place v
+module _ (limit : Limit) (value : Tree) where
+  abbrev Part : Wrong → List Step → Violation → Type 0
+  Part c place v = IsBroken c limit value place v
 
-  abbrev Five : Violation → Type 0
-  Five v = Part code.TooLong v ⊎ (Part code.OutOfRange v ⊎ (Part code.Pattern v ⊎ (Part code.NotAnInstant v ⊎ Part code.NotAValue v)))
+  abbrev Two : List Step → Violation → Type 0
+  Two place v = Part code.NotAnInstant place v ⊎ Part code.NotAValue place v
 
-  in_five : (v : Violation) (c : Wrong) → v.code ≡ c → v.place.steps ≡ place → IsLimitBroken limit value c v.detail → Five v
-  in_five v code.TooLong is at w = inl (at, is, w)
-  in_five v code.OutOfRange is at w = inr (inl (at, is, w))
-  in_five v code.Pattern is at w = inr (inr (inl (at, is, w)))
-  in_five v code.NotAnInstant is at w = inr (inr (inr (inl (at, is, w))))
-  in_five v code.NotAValue is at w = inr (inr (inr (inr (at, is, w))))
-  in_five v c is at w = absurd w
+  abbrev Three : List Step → Violation → Type 0
+  Three place v = Part code.Pattern place v ⊎ Two place v
 
-  of_part : (v : Violation) (c : Wrong) → Part c v → InLimit limit value place v
-  of_part v c w = (w.0, subst (λ k. IsLimitBroken limit value k v.detail) (sym w.1) w.2)
+  abbrev Four : List Step → Violation → Type 0
+  Four place v = Part code.OutOfRange place v ⊎ Three place v
 
-  of_five : (v : Violation) → Five v → InLimit limit value place v
-  of_five v (inl w) = of_part v code.TooLong w
-  of_five v (inr (inl w)) = of_part v code.OutOfRange w
-  of_five v (inr (inr (inl w))) = of_part v code.Pattern w
-  of_five v (inr (inr (inr (inl w)))) = of_part v code.NotAnInstant w
-  of_five v (inr (inr (inr (inr w)))) = of_part v code.NotAValue w
+  abbrev Five : List Step → Violation → Type 0
+  Five place v = Part code.TooLong place v ⊎ Four place v
 
-  pub gains_limit : (a b c d e f : List Violation) → Gains (Part code.TooLong) a b → Gains (Part code.OutOfRange) b c → Gains (Part code.Pattern) c d
-      → Gains (Part code.NotAnInstant) d e → Gains (Part code.NotAValue) e f → Gains (InLimit limit value place) a f
-  gains_limit a b c d e f g h i j k = gains_alike Five (InLimit limit value place) a f of_five (λ v w. in_five v v.code refl w.0 w.1)
-      (gains_both (Part code.TooLong) (λ v. Part code.OutOfRange v ⊎ (Part code.Pattern v ⊎ (Part code.NotAnInstant v ⊎ Part code.NotAValue v))) a b f g
-      (gains_both (Part code.OutOfRange) (λ v. Part code.Pattern v ⊎ (Part code.NotAnInstant v ⊎ Part code.NotAValue v)) b c f h
-      (gains_both (Part code.Pattern) (λ v. Part code.NotAnInstant v ⊎ Part code.NotAValue v) c d f i
-      (gains_both (Part code.NotAnInstant) (Part code.NotAValue) d e f j k))))
+  in_five : (place : List Step) (v : Violation) (c : Wrong) → v.code ≡ c → v.place.steps ≡ place → IsLimitBroken limit value c v.detail → Five place v
+  in_five place v code.TooLong is at w = inl (at, is, w)
+  in_five place v code.OutOfRange is at w = inr (inl (at, is, w))
+  in_five place v code.Pattern is at w = inr (inr (inl (at, is, w)))
+  in_five place v code.NotAnInstant is at w = inr (inr (inr (inl (at, is, w))))
+  in_five place v code.NotAValue is at w = inr (inr (inr (inr (at, is, w))))
+  in_five place v c is at w = absurd w
+
+  of_part : (place : List Step) (v : Violation) (c : Wrong) → Part c place v → InLimit limit value place v
+  of_part place v c w = (w.0, subst (λ k. IsLimitBroken limit value k v.detail) (sym w.1) w.2)
+
+  of_five : (place : List Step) (v : Violation) → Five place v → InLimit limit value place v
+  of_five place v (inl w) = of_part place v code.TooLong w
+  of_five place v (inr (inl w)) = of_part place v code.OutOfRange w
+  of_five place v (inr (inr (inl w))) = of_part place v code.Pattern w
+  of_five place v (inr (inr (inr (inl w)))) = of_part place v code.NotAnInstant w
+  of_five place v (inr (inr (inr (inr w)))) = of_part place v code.NotAValue w
+
+  pub noted_limit : (a b c d e f : Notes) → Noted (Part code.TooLong) a b → Noted (Part code.OutOfRange) b c → Noted (Part code.Pattern) c d
+      → Noted (Part code.NotAnInstant) d e → Noted (Part code.NotAValue) e f → Noted (InLimit limit value) a f
+  noted_limit a b c d e f g h i j k = noted_as Five (InLimit limit value) a f of_five (λ place v w. in_five place v v.code refl w.0 w.1)
+      (noted_both (Part code.TooLong) Four a b f g
+      (noted_both (Part code.OutOfRange) Three b c f h
+      (noted_both (Part code.Pattern) Two c d f i
+      (noted_both (Part code.NotAnInstant) (Part code.NotAValue) d e f j k))))
 
 -- ---- a value of a kind
 
@@ -116,10 +127,7 @@ module _ (schema : SchemaParts) (attr : Attr) (name : List ℕ) (value : Tree) (
     right : (detail : List ℕ) → IsWrongSingle schema attr.target value detail → ⊥
     right detail w = (single_is detail w).0 (subst (λ o. IsSomeAnd o (λ k. IsOfBase k.base value)) (sym is) based)
 
-    abbrev Two : Violation → Type 0
-    Two v = InLimits kind.limits value place v ⊎ IsNoKeyHere attr value place v
-
-    in_two : (v : Violation) (c : Wrong) → v.code ≡ c → v.place.steps ≡ place → IsWrongValue schema (of_element attr value) c v.detail → Two v
+    in_two : (v : Violation) (c : Wrong) → v.code ≡ c → v.place.steps ≡ place → IsWrongValue schema (of_element attr value) c v.detail → InKind kind attr value place v
     in_two v code.WrongType coded at w = absurd (right v.detail w)
     in_two v code.EnumUnknown coded at w = inr (at, coded, w.0, w.1)
     in_two v c coded at w =
@@ -131,7 +139,7 @@ module _ (schema : SchemaParts) (attr : Attr) (name : List ℕ) (value : Tree) (
           holds = (at, subst (λ k. IsLimitBroken some.0 value k v.detail) (sym coded) some.2);
         })
 
-    of_two : (v : Violation) (c : Wrong) → v.code ≡ c → Two v → Here_wrong v
+    of_two : (v : Violation) (c : Wrong) → v.code ≡ c → InKind kind attr value place v → Here_wrong v
     of_two v c coded (inr w) = (w.0, subst (λ k. IsWrongValue schema (of_element attr value) k v.detail) (sym w.1) (w.2, w.3, right))
     of_two v c coded (inl e) = (
       e.holds.0,
@@ -145,27 +153,35 @@ module _ (schema : SchemaParts) (attr : Attr) (name : List ℕ) (value : Tree) (
         by_code c w = limit_of c v.detail (subst (λ o. Kinded o c v.detail) (sym is)
             (based, (e.item, (e.at, slice_get_within kind.limits e.at e.item e.found, get_or_from_slice_get kind.limits e.at e.item e.item e.found), w)))
 
-    pub gains_kind : (old mid new : List Violation) → Gains (InLimits kind.limits value place) old mid → Gains (IsNoKeyHere attr value place) mid new → Gains Here_wrong old new
-    gains_kind old mid new g h = gains_alike Two Here_wrong old new (λ v w. of_two v v.code refl w) (λ v w. in_two v v.code refl w.0 w.1)
-        (gains_both (InLimits kind.limits value place) (IsNoKeyHere attr value place) old mid new g h)
+    pub gains_kind : (old new : List Violation) → Gains (InKind kind attr value place) old new → Gains Here_wrong old new
+    gains_kind old new g = gains_alike (InKind kind attr value place) Here_wrong old new (λ v w. of_two v v.code refl w) (λ v w. in_two v v.code refl w.0 w.1) g
 
 -- ---- the enumeration
 
-module _ (attr : Attr) (value : Tree) (place : List Step) (old new : List Violation) where
-  pub gains_no_key : (name : List ℕ) → enum_key value ≡ Some name → (IsOfEnumeration attr.members value → ⊥)
-      → Gains (IsThis place code.EnumUnknown name) old new → Gains (IsNoKeyHere attr value place) old new
-  gains_no_key name is apart g = gains_alike (IsThis place code.EnumUnknown name) (IsNoKeyHere attr value place) old new
-      (λ v this. (this.where_it_is, this.what_it_is, apart, is ∙ ap Some (sym this.told_as)))
-      (λ v w. record { where_it_is = w.0; what_it_is = w.1; told_as = same_Some v.detail name (sym w.3 ∙ is) }) g
-
-  pub gains_key : IsOfEnumeration attr.members value → Gains (IsNoKeyHere attr value place) old old
-  gains_key fits = gains_nothing (IsNoKeyHere attr value place) old (λ v w. w.2 fits)
-
 -- of an enumeration with members
-pub no_key_of : (members : List EnumMember) (value : Tree) (name : List ℕ) → members ≢ [] → enum_key value ≡ Some name → is_key members name ≡ false → IsOfEnumeration members value → ⊥
-no_key_of [] value name some is apart fits = some refl
-no_key_of (m ∷ ms) value name some is apart fits = true≢false (sym (subst (λ o. IfSome o (λ n. is_key (m ∷ ms) n ≡ true)) is fits) ∙ apart)
+pub no_key_of : (members : List EnumMember) (value : Tree) (word : List ℕ) → members ≢ [] → enum_key value ≡ Some word → is_key members word ≡ false → IsOfEnumeration members value → ⊥
+no_key_of [] value word some is apart fits = some refl
+no_key_of (m ∷ ms) value word some is apart fits = true≢false (sym (subst (λ o. IfSome o (λ n. is_key (m ∷ ms) n ≡ true)) is fits) ∙ apart)
 
-pub key_of : (members : List EnumMember) (value : Tree) (name : List ℕ) → enum_key value ≡ Some name → is_key members name ≡ true → IsOfEnumeration members value
-key_of [] value name is there = tt
-key_of (m ∷ ms) value name is there = subst (λ o. IfSome o (λ n. is_key (m ∷ ms) n ≡ true)) (sym is) there
+pub key_of : (members : List EnumMember) (value : Tree) (word : List ℕ) → enum_key value ≡ Some word → is_key members word ≡ true → IsOfEnumeration members value
+key_of [] value word is there = tt
+key_of (m ∷ ms) value word is there = subst (λ o. IfSome o (λ n. is_key (m ∷ ms) n ≡ true)) (sym is) there
+
+module _ (attr : Attr) (value : Tree) (place : List Step) (old new : List Violation) where
+  module _ (word : List ℕ) (some : attr.members ≢ []) (is : enum_key value ≡ Some word) where
+    strange : (b : Bool) (v : Violation) → is_key attr.members word ≡ b → IsNoKeyHere attr value place v → IsStrange attr.members word place v
+    strange true v there w = absurd (w.2 (key_of attr.members value word is there))
+    strange false v apart w = record {
+      strange = apart;
+      this = record { where_it_is = w.0; what_it_is = w.1; told_as = same_Some v.detail word (sym w.3 ∙ is) };
+    }
+
+    pub gains_word : Gains (IsStrange attr.members word place) old new → Gains (IsNoKeyHere attr value place) old new
+    gains_word g = gains_alike (IsStrange attr.members word place) (IsNoKeyHere attr value place) old new
+        (λ v w. (w.this.where_it_is, w.this.what_it_is, no_key_of attr.members value word some is w.strange, is ∙ ap Some (sym w.this.told_as)))
+        (λ v w. strange (is_key attr.members word) v refl w) g
+
+pub noted_strange : (members : List EnumMember) (word : List ℕ) (old new : Notes) → is_key members word ≡ false
+    → Noted (λ place. IsThis place code.EnumUnknown word) old new → Noted (IsStrange members word) old new
+noted_strange members word old new apart n = noted_as (λ place. IsThis place code.EnumUnknown word) (IsStrange members word) old new
+    (λ place v this. record { strange = apart; this = this }) (λ place v w. w.this) n

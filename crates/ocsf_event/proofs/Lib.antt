@@ -6,6 +6,7 @@ mod GainedParts
 mod Gains
 mod Kinded
 mod MemberValues
+mod Noted
 mod Objects
 mod OneOrder
 mod Ordered

@@ -1,6 +1,6 @@
 -- The members of an object and their values.
-use Rattle.std.proofs.Common.{◌≡◌, ℕ, zero, suc, List, [], ◌∷◌, length, Bool, true, false, true≢false, Option, Some, None, refl, sym, ◌∙◌, ap, subst, if◌then◌else◌, arith}
-use Rattle.std.specs.Prelude.{cond, slice_get, slice_index_or, ◌<◌}
+use Rattle.std.proofs.Common.{◌≡◌, ℕ, zero, suc, List, [], ◌∷◌, Bool, true, false, Some, None, refl, sym, ◌∙◌, ap, if◌then◌else◌}
+use Rattle.std.specs.Prelude.{cond, slice_get}
 use Rattle.std.specs.Ordering.{is_eq}
 use Rattle.std.specs.declared.cmp.Ordering.{Ordering}
 use Rattle.std.specs.declared.cmp.Ordering.TheVariants.{Less, Equal, Greater}

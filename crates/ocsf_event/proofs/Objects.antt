@@ -1,12 +1,11 @@
 -- What is wrong within an object, from what is wrong with each member and with the object as a whole.
-use Rattle.std.proofs.Common.{◌≡◌, ◌≢◌, ℕ, List, [], ◌∷◌, ◌++◌, Bool, true, false, true≢false, Option, Some, None, ◌⊎◌, inl, inr, refl, sym, ◌∙◌, ap, subst, if◌then◌else◌}
-use Rattle.std.specs.Prelude.{slice_get, IsSomeAnd, IsSome, is_some}
+use Rattle.std.proofs.Common.{◌≡◌, ℕ, List, [], Bool, true, false, true≢false, Option, Some, None, ◌⊎◌, inl, inr, refl, sym, ◌∙◌, ap, subst, if◌then◌else◌}
+use Rattle.std.specs.Prelude.{slice_get, IsSomeAnd, is_some}
 use Rattle.std.specs.Option.{option_map, option_and_then}
-use Rattle.std.proofs.lemmas.Option.{none-some, same_Some, option_and_then_some}
+use Rattle.std.proofs.lemmas.Option.{none-some, same_Some}
 use Rattle.ocsf_tree.specs.declared.tree.Tree.{Tree}
 use Rattle.ocsf_tree.specs.declared.tree.Member.{Member}
 use Rattle.ocsf_tree.specs.declared.place.Step.{Step}
-use Rattle.ocsf_tree.specs.declared.place.Step.TheVariants.{At, Name}
 use Rattle.ocsf_tree.specs.declared.attribute.Requirement.TheVariants.{Required}
 use Rattle.ocsf_lists.specs.ByName.{IsByName}
 use Rattle.ocsf_tree.specs.Valid.{IsValidMembers}
@@ -17,12 +16,11 @@ use Rattle.ocsf_event.specs.declared.violation.Wrong.{Wrong}
 use Rattle.ocsf_event.specs.declared.violation.Wrong.TheVariants as code
 use Rattle.ocsf_event.specs.declared.violation.Violation.{Violation}
 use Rattle.ocsf_event_rules.specs.Profiles.{is_in_force}
-use Rattle.ocsf_event_rules.specs.EventClass.{is_null, value_of, attribute_named}
-use Rattle.ocsf_event_rules.specs.Judged.{Seen, ItemObject, with_item, attribute_in_force, member_seen, of_attribute}
-use Rattle.ocsf_event.specs.ByCode.{IsWrongMember, IsWrongObject}
-use Rattle.ocsf_event.specs.Gains.{Each}
-use Rattle.ocsf_event.specs.Walk.{IsThis, IsWithin, InObject, AtMember, AtObject, BelowMember, InMember, Unknown, Known, InKnown, Off, On, InMembers, IsMissing, AreMissing, IsWrongWhole, at_name_below}
-use Rattle.ocsf_event.proofs.MemberValues.{IsThere, member_there, there_is, IsNamed, named_there, named_at}
+use Rattle.ocsf_event_rules.specs.EventClass.{value_of, attribute_named}
+use Rattle.ocsf_event_rules.specs.Judged.{Seen, ItemObject, with_item, attribute_in_force, of_attribute}
+use Rattle.ocsf_event.specs.ByCode.{IsWrongMember}
+use Rattle.ocsf_event.specs.Walk.{IsThis, IsWithin, InObject, AtMember, AtObject, BelowMember, InMember, Unknown, Known, Off, On, InMembers, IsMissing, AreMissing, IsWrongWhole, at_name_below}
+use Rattle.ocsf_event.proofs.MemberValues.{member_there, there_is, named_there, named_at}
 
 abbrev pub attr_name : Attr → List ℕ
 attr_name attr = attr.name
@@ -39,11 +37,11 @@ some_of : {X : Type 0} (o : Option X) (x : X) (P : X → Type 0) → o ≡ Some 
 some_of o x P e p = subst (λ o. IsSomeAnd o P) (sym e) p
 
 module _ (schema : SchemaParts) (profiles : List (List ℕ)) (item : Item) (members : List Member) (place : List Step) (v : Violation) where
-  abbrev object : ItemObject
+  abbrev pub object : ItemObject
   object = with_item item members
 
-  abbrev Parts : Type 0
-  Parts = InMembers schema profiles item place members v ⊎ (AreMissing profiles item members place v ⊎ IsWrongWhole profiles object place v)
+  abbrev pub Parts : Type 0
+  Parts = InMembers schema profiles item members place v ⊎ (AreMissing profiles item members place v ⊎ IsWrongWhole profiles object place v)
 
   if_in_force : (b : Bool) (attr next : Attr) → is_in_force profiles attr ≡ b → (if b then Some attr else None) ≡ Some next → (is_in_force profiles next ≡ true) × (attr ≡ next)
   if_in_force true attr next is e = let same = same_Some attr next e in (subst (λ a. is_in_force profiles a ≡ true) same is, same)
@@ -125,7 +123,7 @@ module _ (schema : SchemaParts) (profiles : List (List ℕ)) (item : Item) (memb
         (subst (λ k. IsWrongMember profiles object name k v.detail) (sym this.what_it_is)
         (subst (λ d. IsWrongMember profiles object name c d) (sym this.told_as) w))
 
-    from_member : (i : ℕ) (m : Member) → slice_get members i ≡ Some m → InMember schema profiles item place m v → InObject schema profiles object place v
+    from_member : (i : ℕ) (m : Member) → slice_get members i ≡ Some m → InMember schema profiles item m place v → InObject schema profiles object place v
     from_member i m found (Unknown given some none this) =
         this_at m.name code.AttributeUnknown [] this (some, ap is_some (there_is members i m valid found given), none, refl)
     from_member i m found (Known attr given named (Off profile off marked this)) =
@@ -138,7 +136,7 @@ module _ (schema : SchemaParts) (profiles : List (List ℕ)) (item : Item) (memb
         ∙ ap (option_map (of_attribute attr)) (there_is members i m valid found given))
         w
 
-    from_missing : (i : ℕ) (attr : Attr) → slice_get item.attrs i ≡ Some attr → IsMissing profiles members place attr v → InObject schema profiles object place v
+    from_missing : (i : ℕ) (attr : Attr) → slice_get item.attrs i ≡ Some attr → IsMissing profiles members attr place v → InObject schema profiles object place v
     from_missing i attr found missing =
         this_at attr.name code.RequiredMissing [] missing.this
         (missing.absent, some_of (attribute_named item attr.name) attr (λ a. (is_in_force profiles a ≡ true) × (a.requirement ≡ Required)) (named_at attr_name item.attrs i attr ordered found) (missing.in_force, missing.required), refl)

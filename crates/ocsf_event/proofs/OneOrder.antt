@@ -1,11 +1,10 @@
 -- Violations are totally ordered, and those that are in one place of the order are one.
-use Rattle.std.proofs.Common.{◌≡◌, ℕ, zero, suc, List, refl, sym, ◌∙◌, ap}
+use Rattle.std.proofs.Common.{◌≡◌, ℕ, zero, suc, refl, sym, ◌∙◌, ap}
 use Rattle.std.specs.declared.cmp.Ordering.{Ordering}
 use Rattle.std.specs.declared.cmp.Ordering.TheVariants.{Less, Equal, Greater}
 use Rattle.std.specs.Ordering.{ordering_then, nat_cmp}
-use Rattle.std.specs.Cmp.{IsTotalOrder}
-use Rattle.std.proofs.lemmas.Cmp.{ranked, then_total, on_total, nat_cmp_total, nat_list_cmp_total}
-use Rattle.ocsf_tree.proofs.Places.{place_cmp_total, same_place}
+use Rattle.std.proofs.lemmas.Cmp.{ranked}
+use Rattle.ocsf_tree.proofs.Places.{same_place}
 use Rattle.ocsf_lists.proofs.NameLists.{same_text}
 use Rattle.ocsf_lists.specs.ByName.{text_cmp}
 use Rattle.ocsf_tree.specs.Place.{place_cmp}

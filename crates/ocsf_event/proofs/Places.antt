@@ -6,7 +6,7 @@ use Rattle.std.proofs.lemmas.List.{append-nil, append_assoc}
 use Rattle.ocsf_tree.specs.declared.tree.Tree.{Tree}
 use Rattle.ocsf_tree.specs.declared.tree.Member.{Member}
 use Rattle.ocsf_tree.specs.declared.place.Step.{Step}
-use Rattle.ocsf_tree.specs.declared.place.Step.TheVariants.{At, Name}
+use Rattle.ocsf_tree.specs.declared.place.Step.TheVariants.{Name}
 use Rattle.ocsf_schema.specs.declared.records.Item.{Item}
 use Rattle.ocsf_schema.specs.declared.parts.SchemaParts.{SchemaParts}
 use Rattle.ocsf_event.specs.declared.violation.Violation.{Violation}

@@ -1,5 +1,5 @@
 -- From what the list of an event gains to its report.
-use Rattle.std.proofs.Common.{◌≡◌, ◌≢◌, ℕ, zero, suc, ◌<◌, length, get_or, List, [], ◌∷◌, ◌++◌, map, Bool, true, false, cond, true≢false, Option, Some, None, ◌⊎◌, inl, inr, refl, sym, ◌∙◌, ap, subst, arith}
+use Rattle.std.proofs.Common.{◌≡◌, ℕ, zero, suc, List, [], ◌∷◌, map, Option, Some, None, ◌⊎◌, inl, inr, refl, sym, ◌∙◌, ap, subst, arith}
 use Rattle.std.specs.Prelude.{AllPairs, Contains, codes, slice_get}
 use Rattle.std.specs.Option.{option_map, option_and_then}
 use Rattle.std.proofs.lemmas.List.Elements.{All-map}
@@ -22,9 +22,11 @@ use Rattle.ocsf_event_rules.specs.Profiles.{named_profiles}
 use Rattle.ocsf_event_rules.specs.EventClass.{as_object, whole_of, class_of, class_of_event}
 use Rattle.ocsf_event_rules.specs.Judged.{Seen, of_class, with_item, seen_from, seen}
 use Rattle.ocsf_event_rules.specs.Violations.{IsViolation, IsReport, NoObject, NoClass, AtValue, AtMember, AtObject, OnEvent, whole_text}
+use Rattle.ocsf_event.specs.declared.notes.Notes.{Notes}
 use Rattle.ocsf_event.specs.Gains.{Gains}
-use Rattle.ocsf_event.specs.Walk.{IsThis, IsWithin, InObject, IsWrong, IsAmiss}
-use Rattle.ocsf_event.proofs.Gains.{gains_alike, gains_both}
+use Rattle.ocsf_event.specs.Noted.{Noted}
+use Rattle.ocsf_event.specs.Walk.{IsThis, InObject, IsWrong, IsAmiss}
+use Rattle.ocsf_event.proofs.Gains.{gains_alike}
 use Rattle.ocsf_event.proofs.Walks.{class_seen, from_object, within_class}
 use Rattle.ocsf_event.proofs.Places.{is_violation, of_violation}
 use Rattle.ocsf_event.proofs.Sorted.{in_order_rises, in_order_there, in_order_back}
@@ -44,11 +46,10 @@ wrong_from schema event v p c d this w =
 -- ---- the three sorts of events
 
 module _ (schema : SchemaParts) (event : Tree) (old new : List Violation) where
-  pub gains_class : (members : List Member) (class : Item) (number : ℕ) (mid : List Violation) → as_object event ≡ Some members → class_of schema members ≡ Some class → class.class_uid ≡ Some number
-      → Gains (InObject schema (named_profiles event) (with_item class members) []) old mid → Gains (IsAmiss schema event number members) mid new → Gains (IsWrong schema event) old new
-  gains_class members class number mid is known numbered g h =
-      gains_alike (λ v. InObject schema (named_profiles event) (with_item class members) [] v ⊎ IsAmiss schema event number members v) (IsWrong schema event) old new there back
-      (gains_both (InObject schema (named_profiles event) (with_item class members) []) (IsAmiss schema event number members) old mid new g h)
+  pub gains_class : (members : List Member) (class : Item) (number : ℕ) → as_object event ≡ Some members → class_of schema members ≡ Some class → class.class_uid ≡ Some number
+      → Gains (λ v. InObject schema (named_profiles event) (with_item class members) [] v ⊎ IsAmiss schema event number members v) old new → Gains (IsWrong schema event) old new
+  gains_class members class number is known numbered g =
+      gains_alike (λ v. InObject schema (named_profiles event) (with_item class members) [] v ⊎ IsAmiss schema event number members v) (IsWrong schema event) old new there back g
     where
       there : (v : Violation) → InObject schema (named_profiles event) (with_item class members) [] v ⊎ IsAmiss schema event number members v → IsWrong schema event v
       there v (inl w) = is_violation schema event v members class number is known numbered
@@ -161,3 +162,10 @@ module _ (schema : SchemaParts) (event : Tree) (found : List Violation) (g : Gai
     ordered = map_pairs told_violation (λ v w. wrong.violation_cmp v w ≡ Less) made (in_order_rises violation_order violation_order_total same_violation found);
     listed = λ v. (listed_there v, listed_back v);
   }
+
+-- from what is noted, put in order
+pub reported : (schema : SchemaParts) (event : Tree) (old new : Notes) (found report : List Violation) → Noted (λ place. IsWrong schema event) old new
+    → old.found ≡ [] → found ≡ new.found → report ≡ in_order violation_order found → IsReport schema event (map told_violation report)
+reported schema event old new found report n none is all =
+    subst (λ (m : List Violation). IsReport schema event (map told_violation m)) (sym (all ∙ ap (in_order violation_order) is))
+    (is_report schema event new.found (subst (λ (o : List Violation). Gains (IsWrong schema event) o new.found) none n.gained))

@@ -1,6 +1,6 @@
 -- What is wrong within a value, from what is wrong with its parts.
-use Rattle.std.proofs.Common.{◌≡◌, ◌≢◌, ℕ, List, [], ◌∷◌, ◌++◌, Bool, true, false, true≢false, Option, Some, None, ◌⊎◌, inl, inr, refl, sym, ◌∙◌, ap, subst, if◌then◌else◌}
-use Rattle.std.specs.Prelude.{slice_get, IsSomeAnd, IsSome, is_some, codes}
+use Rattle.std.proofs.Common.{◌≡◌, ℕ, List, Bool, true, false, Option, Some, None, inl, inr, refl, sym, ◌∙◌, ap, subst, if◌then◌else◌}
+use Rattle.std.specs.Prelude.{slice_get, IsSomeAnd, codes}
 use Rattle.std.specs.Option.{option_map, option_and_then}
 use Rattle.std.proofs.lemmas.Option.{none-some, same_Some}
 use Rattle.ocsf_tree.specs.declared.tree.Tree.{Tree, out-Tree}
@@ -16,15 +16,14 @@ use Rattle.ocsf_schema.specs.declared.parts.SchemaParts.{SchemaParts}
 use Rattle.ocsf_event.specs.declared.violation.Wrong.{Wrong}
 use Rattle.ocsf_event.specs.declared.violation.Wrong.TheVariants as code
 use Rattle.ocsf_event.specs.declared.violation.Violation.{Violation}
-use Rattle.ocsf_event_rules.specs.Profiles.{as_list, is_in_force}
+use Rattle.ocsf_event_rules.specs.Profiles.{as_list}
 use Rattle.ocsf_event_rules.specs.Conditions.{key_in, enum_key}
-use Rattle.ocsf_event_rules.specs.EventClass.{as_object, is_null, value_of, attribute_named, item_named}
+use Rattle.ocsf_event_rules.specs.EventClass.{as_object, item_named}
 use Rattle.ocsf_tree.specs.Lookup.{members_of}
-use Rattle.ocsf_event_rules.specs.Judged.{Judge, OfClass, OfAttribute, OfElement, Seen, ItemObject, with_item, object_of, item_of, single_attr, object_seen, member_seen, element_of, element_seen, seen_at, of_attribute, of_element, of_class}
-use Rattle.ocsf_event_rules.specs.Violations.{IsWrongSingle, IsWrongList, IsWrongType, IsNoKey}
+use Rattle.ocsf_event_rules.specs.Judged.{OfAttribute, Seen, ItemObject, with_item, object_of, single_attr, object_seen, member_seen, element_seen, seen_at, of_attribute, of_element, of_class}
+use Rattle.ocsf_event_rules.specs.Violations.{IsWrongSingle, IsWrongList, IsNoKey}
 use Rattle.ocsf_event.specs.ByCode.{BreaksLimit, IsWrongValue, IsWrongMember, IsWrongObject}
-use Rattle.ocsf_event.specs.Gains.{Each}
-use Rattle.ocsf_event.specs.Walk.{IsThis, IsWithin, Here, OfMember, OfObject, Deeper, InObject, AtMember, AtObject, BelowMember, InItem, InItems, at_name_below, at_position, WantsObject, IsUnfit}
+use Rattle.ocsf_event.specs.Walk.{IsThis, IsWithin, Here, OfMember, OfObject, Deeper, InObject, AtMember, AtObject, BelowMember, InItems, at_position, WantsObject, IsUnfit}
 
 -- an object is no key
 no_key_in : (x : Tree-F Tree Member) (detail : List ℕ) (ms : List Member) → key_in x ≡ Some detail → members_of x ≡ Some ms → ⊥
@@ -168,7 +167,7 @@ module _ (schema : SchemaParts) (profiles : List (List ℕ)) where
       element_is : (position : ℕ) → element_seen position (of_attribute attr value) ≡ option_map (of_element attr) (slice_get items position)
       element_is position = ap (λ b. element_if b position) array ∙ ap (λ o. option_map (of_element attr) (option_and_then (λ values. slice_get values position) o)) is
 
-      to_items_of : {here : Seen} {place : List Step} {v : Violation} → here ≡ of_attribute attr value → Within here place v → InItems schema profiles attr place items v
+      to_items_of : {here : Seen} {place : List Step} {v : Violation} → here ≡ of_attribute attr value → Within here place v → InItems schema profiles attr items place v
       to_items_of same (Here here place v at w) =
           absurd (none-some items (sym (list_wrong v.code v.detail (subst (λ h. IsWrongValue schema h v.code v.detail) same w)).0 ∙ is))
       to_items_of same (OfMember here place v object name found at w) = absurd (none-some object (sym no_object ∙ sym (ap (object_seen schema) same) ∙ found))
@@ -179,10 +178,10 @@ module _ (schema : SchemaParts) (profiles : List (List ℕ)) where
           let parts = picked (slice_get items position) next (λ n. Within n (at_position place position) v) (sym (element_is position) ∙ sym (ap (element_seen position) same) ∙ found) w in
           record { at = position; item = parts.0; found = parts.1; holds = parts.2 }
 
-      pub to_items : (place : List Step) (v : Violation) → Within (of_attribute attr value) place v → InItems schema profiles attr place items v
+      pub to_items : (place : List Step) (v : Violation) → Within (of_attribute attr value) place v → InItems schema profiles attr items place v
       to_items place v w = to_items_of refl w
 
-      pub from_items : (place : List Step) (v : Violation) → InItems schema profiles attr place items v → Within (of_attribute attr value) place v
+      pub from_items : (place : List Step) (v : Violation) → InItems schema profiles attr items place v → Within (of_attribute attr value) place v
       from_items place v e = Deeper (of_attribute attr value) place v (At e.at) (of_element attr e.item) (element_is e.at ∙ ap (option_map (of_element attr)) e.found) e.holds
 
     module _ (none : as_list value ≡ None) where

@@ -1,4 +1,5 @@
 pub mod Gains
+pub mod Noted
 pub mod Code
 pub mod ByCode
 pub mod Walk

@@ -1,5 +1,4 @@
 -- Violations are totally ordered.
-use Rattle.std.specs.Prelude.{ℕ, List}
 use Rattle.std.specs.Cmp.{IsTotalOrder}
 use Rattle.std.proofs.lemmas.Cmp.{then_total, on_total, nat_cmp_total, nat_list_cmp_total}
 use Rattle.ocsf_tree.proofs.Places.{place_cmp_total}

@@ -1,14 +1,16 @@
 -- For private clauses: what is wrong with a value and below it, step by step.
-use Rattle.std.specs.Prelude.{◌≡◌, ◌≢◌, ℕ, ℤ, pos, negsuc, ◌<◌, ◌^◌, Bool, true, false, List, [], ◌∷◌, ◌++◌, Option}
+use Rattle.std.specs.Prelude.{◌≡◌, ◌≢◌, ℕ, ℤ, pos, negsuc, ◌<◌, ◌^◌, true, false, List, [], ◌∷◌, ◌++◌}
 use Rattle.std.specs.Prelude.{Some, None, ⊤, ◌⊎◌, codes}
 use Rattle.std.specs.Fmt.{signed_decimal}
 use Rattle.ocsf_tree.specs.declared.tree.Tree.{Tree}
 use Rattle.ocsf_tree.specs.declared.tree.Member.{Member}
 use Rattle.ocsf_tree.specs.declared.place.Step.{Step}
 use Rattle.ocsf_tree.specs.declared.place.Step.TheVariants.{At, Name}
+use Rattle.ocsf_tree.specs.declared.attribute.EnumMember.{EnumMember}
 use Rattle.ocsf_tree.specs.declared.attribute.Requirement.TheVariants.{Required}
 use Rattle.ocsf_schema.specs.declared.records.Attr.{Attr}
 use Rattle.ocsf_schema.specs.declared.records.Item.{Item}
+use Rattle.ocsf_schema.specs.declared.records.Kind.{Kind}
 use Rattle.ocsf_schema.specs.declared.records.Target.{Target}
 use Rattle.ocsf_schema.specs.declared.records.Target.TheVariants as target
 use Rattle.ocsf_schema.specs.declared.parts.SchemaParts.{SchemaParts}
@@ -20,8 +22,8 @@ use Rattle.ocsf_event.specs.declared.violation.Violation.{Violation}
 use Rattle.ocsf_event_rules.specs.Profiles.{is_in_force, as_text, profile_list, is_profile}
 use Rattle.ocsf_event_rules.specs.EventClass.{is_null, as_object, value_of, whole_of, item_named, attribute_named}
 use Rattle.ocsf_schema.specs.declared.records.Limit.{Limit}
-use Rattle.ocsf_event_rules.specs.Conditions.{IsOfEnumeration, enum_key, expected_type, DoNumbersAgree}
-use Rattle.ocsf_event_rules.specs.Judged.{Seen, ItemObject, with_item, object_seen, member_seen, seen_at}
+use Rattle.ocsf_event_rules.specs.Conditions.{IsOfEnumeration, enum_key, is_key, expected_type, DoNumbersAgree}
+use Rattle.ocsf_event_rules.specs.Judged.{Seen, ItemObject, object_seen, member_seen, seen_at}
 use Rattle.ocsf_event_rules.specs.Judged.{of_attribute, of_element}
 use Rattle.ocsf_event_rules.specs.Violations.{IsViolation, profile_place}
 use Rattle.ocsf_event.specs.Code.{rank}
@@ -72,24 +74,24 @@ module _ (schema : SchemaParts) (profiles : List (List ℕ)) where
     On : is_in_force profiles attr ≡ true → IsWithin (of_attribute attr value) place v → InKnown attr value place v
 
   -- of one member
-  pub data InMember (item : Item) (place : List Step) (m : Member) (v : Violation) : Type 0 where
+  pub data InMember (item : Item) (m : Member) (place : List Step) (v : Violation) : Type 0 where
     Unknown : is_null m.value ≡ false → item.attrs ≢ [] → attribute_named item m.name ≡ None
-        → IsThis (at_name_below place m.name) AttributeUnknown [] v → InMember item place m v
+        → IsThis (at_name_below place m.name) AttributeUnknown [] v → InMember item m place v
     Known : (attr : Attr) → is_null m.value ≡ false → attribute_named item m.name ≡ Some attr
-        → InKnown attr m.value (at_name_below place m.name) v → InMember item place m v
+        → InKnown attr m.value (at_name_below place m.name) v → InMember item m place v
 
-  abbrev pub InMembers : Item → List Step → List Member → Violation → Type 0
-  InMembers item place members v = Each (λ i m. InMember item place m) members v
+  abbrev pub InMembers : Item → List Member → List Step → Violation → Type 0
+  InMembers item members place v = Each (λ i m. InMember item m place) members v
 
   -- of one item of a list
   abbrev pub InItem : Attr → List Step → ℕ → Tree → Violation → Type 0
   InItem attr place position one v = IsWithin (of_element attr one) (at_position place position) v
 
-  abbrev pub InItems : Attr → List Step → List Tree → Violation → Type 0
-  InItems attr place items v = Each (InItem attr place) items v
+  abbrev pub InItems : Attr → List Tree → List Step → Violation → Type 0
+  InItems attr items place v = Each (InItem attr place) items v
 
 -- an attribute that has to be there and isn't
-pub record IsMissing (profiles : List (List ℕ)) (members : List Member) (place : List Step) (attr : Attr)
+pub record IsMissing (profiles : List (List ℕ)) (members : List Member) (attr : Attr) (place : List Step)
     (v : Violation) : Type 0 where
   pub absent : value_of attr.name members ≡ None
   pub in_force : is_in_force profiles attr ≡ true
@@ -97,7 +99,7 @@ pub record IsMissing (profiles : List (List ℕ)) (members : List Member) (place
   pub this : IsThis (at_name_below place attr.name) RequiredMissing [] v
 
 abbrev pub AreMissing : List (List ℕ) → Item → List Member → List Step → Violation → Type 0
-AreMissing profiles item members place v = Each (λ i attr. IsMissing profiles members place attr) item.attrs v
+AreMissing profiles item members place v = Each (λ i attr. IsMissing profiles members attr place) item.attrs v
 
 -- too few or too many of some attributes are there
 abbrev pub IsWrongWhole : List (List ℕ) → ItemObject → List Step → Violation → Type 0
@@ -163,10 +165,19 @@ InLimit limit value place v = (v.place.steps ≡ place) × IsLimitBroken limit v
 abbrev pub InLimits : List Limit → Tree → List Step → Violation → Type 0
 InLimits limits value place v = Each (λ i limit. InLimit limit value place) limits v
 
+-- it is none of the keys
+pub record IsStrange (members : List EnumMember) (word : List ℕ) (place : List Step) (v : Violation) : Type 0 where
+  pub strange : is_key members word ≡ false
+  pub this : IsThis place EnumUnknown word v
+
 abbrev pub IsNoKeyHere : Attr → Tree → List Step → Violation → Type 0
 IsNoKeyHere attr value place v =
     (v.place.steps ≡ place) × (v.code ≡ EnumUnknown) × (IsOfEnumeration attr.members value → ⊥)
     × (enum_key value ≡ Some v.detail)
+
+-- by the kind of whose base the value is, and by the enumeration
+abbrev pub InKind : Kind → Attr → Tree → List Step → Violation → Type 0
+InKind kind attr value place v = InLimits kind.limits value place v ⊎ IsNoKeyHere attr value place v
 
 abbrev pub IsTooFew : List (List ℕ) → ItemObject → List Step → Violation → Type 0
 IsTooFew profiles object place v = (v.place.steps ≡ place) × (v.code ≡ AtLeastOne)

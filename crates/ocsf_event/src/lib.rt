@@ -3,6 +3,7 @@
 
 mod answer;
 mod members;
+mod notes;
 mod order;
 mod reporting;
 mod simple;

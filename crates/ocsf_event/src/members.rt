@@ -9,18 +9,17 @@ ghost use Rattle.ocsf_tree.specs.Valid.{IsValid, IsValidMembers};
 ghost use Rattle.ocsf_tree.specs.declared.attribute.Requirement.TheVariants.{Required};
 ghost use Rattle.ocsf_schema.specs.Lookups.{IsInOrder};
 ghost use Rattle.ocsf_schema.specs.declared.records.Target.TheVariants as target;
-ghost use Rattle.ocsf_event.specs.Gains.{Gains};
+ghost use Rattle.ocsf_event.specs.Noted.{Noted};
 ghost use Rattle.ocsf_event_rules.specs.Profiles.{is_in_force};
 ghost use Rattle.ocsf_lists.specs.Among.{is_among};
 ghost use Rattle.ocsf_event_rules.specs.EventClass.{is_null, value_of, as_whole, whole_of};
 ghost use Rattle.ocsf_event_rules.specs.Judged.{of_element, with_item, object_of};
 ghost use Rattle.ocsf_event.specs.Walk.{IsMissing, AreMissing, IsWrongWhole, IsTooFew, IsNotOne, IsSmall};
 
-use crate::violation::{Violation, Wrong, note};
+use crate::notes::Notes;
+use crate::violation::Wrong;
 use ocsf_schema::{Attr, Item, Schema, Target};
-use ocsf_tree::{
-    Key, Member, Place, Requirement, Row, Side, Step, Text, Tree, TryClone, find_by_name,
-};
+use ocsf_tree::{Key, Member, Requirement, Side, Text, Tree, find_by_name};
 use std::alloc::{AllocError, Global};
 
 pub(crate) fn is_null(value: &Tree) -> bool
@@ -58,7 +57,7 @@ fn is_required(attr: &Attr) -> bool
     matches!(attr.requirement, Requirement::Required)
 }
 
-fn find<'a>(members: &'a [Member], name: &str) -> Option<&'a Tree>
+pub(crate) fn find<'a>(members: &'a [Member], name: &str) -> Option<&'a Tree>
     requires { IsValidMembers members.now }
     ensures { option_copied result ≡ member_in name.now members.now }
 {
@@ -121,6 +120,9 @@ fn is_present(members: &[Member], attr: &Attr) -> bool
 fn count_listed(profiles: &[Text], item: &Item, names: &[Text]) -> usize
     ensures { result ≡ length (listed_in_force profiles.now item.now names.now) }
 {
+    if names.is_empty() {
+        return 0;
+    }
     let mut count = 0;
     for attr in item.attrs.as_slice() {
         if is_listed(profiles, names, attr) {
@@ -177,36 +179,27 @@ fn judge_at_least(
     profiles: &[Text],
     item: &Item,
     members: &[Member],
-    place: &Place,
-    found: &mut Row<Violation>,
+    notes: &mut Notes,
 ) -> Result<(), AllocError>
     requires valid { IsValidMembers members.now }
-    ensures { OnOk result (Gains (IsTooFew profiles.now (with_item item.now members.now) place.now.steps)
-        found.old found.new) }
+    ensures { OnOk result (Noted (IsTooFew profiles.now (with_item item.now members.now)) notes.old notes.new) }
 {
     let names = item.at_least_one.as_slice();
     if count_listed(profiles, item, names) == 0 || count_given(profiles, item, names, members) > 0 {
         return Ok(());
     }
-    let detail = joined(found.allocator(), names)?;
-    note(
-        found,
-        place.try_clone()?,
-        Wrong::AtLeastOne,
-        detail.as_str(),
-    )
+    let detail = joined(notes.allocator(), names)?;
+    notes.add(Wrong::AtLeastOne, detail.as_str())
 }
 
 fn judge_just_one(
     profiles: &[Text],
     item: &Item,
     members: &[Member],
-    place: &Place,
-    found: &mut Row<Violation>,
+    notes: &mut Notes,
 ) -> Result<(), AllocError>
     requires valid { IsValidMembers members.now }
-    ensures { OnOk result (Gains (IsNotOne profiles.now (with_item item.now members.now) place.now.steps)
-        found.old found.new) }
+    ensures { OnOk result (Noted (IsNotOne profiles.now (with_item item.now members.now)) notes.old notes.new) }
 {
     let names = item.just_one.as_slice();
     if count_listed(profiles, item, names) == 0
@@ -214,8 +207,8 @@ fn judge_just_one(
     {
         return Ok(());
     }
-    let detail = joined(found.allocator(), names)?;
-    note(found, place.try_clone()?, Wrong::JustOne, detail.as_str())
+    let detail = joined(notes.allocator(), names)?;
+    notes.add(Wrong::JustOne, detail.as_str())
 }
 
 /// What is wrong with the object as a whole.
@@ -223,30 +216,26 @@ pub(crate) fn judge_whole(
     profiles: &[Text],
     item: &Item,
     members: &[Member],
-    place: &Place,
-    found: &mut Row<Violation>,
+    notes: &mut Notes,
 ) -> Result<(), AllocError>
     requires valid { IsValidMembers members.now }
-    ensures { OnOk result (Gains (IsWrongWhole profiles.now (with_item item.now members.now) place.now.steps)
-        found.old found.new) }
+    ensures { OnOk result (Noted (IsWrongWhole profiles.now (with_item item.now members.now)) notes.old notes.new) }
 {
-    judge_at_least(profiles, item, members, place, found)?;
-    judge_just_one(profiles, item, members, place, found)
+    judge_at_least(profiles, item, members, notes)?;
+    judge_just_one(profiles, item, members, notes)
 }
 
 fn judge_absent(
     profiles: &[Text],
     attr: &Attr,
     members: &[Member],
-    place: &Place,
-    found: &mut Row<Violation>,
+    notes: &mut Notes,
 ) -> Result<(), AllocError>
     requires valid { IsValidMembers members.now }
-    ensures { OnOk result (Gains (IsMissing profiles.now members.now place.now.steps attr.now) found.old found.new) }
+    ensures { OnOk result (Noted (IsMissing profiles.now members.now attr.now) notes.old notes.new) }
 {
     if is_required(attr) && is_in_force(profiles, attr) && is_absent(members, attr.name.as_str()) {
-        let below = place.below(Step::Name(attr.name.copy()?))?;
-        return note(found, below, Wrong::RequiredMissing, "");
+        return notes.add_at(&attr.name, Wrong::RequiredMissing, "");
     }
     Ok(())
 }
@@ -256,14 +245,13 @@ pub(crate) fn judge_missing(
     profiles: &[Text],
     item: &Item,
     members: &[Member],
-    place: &Place,
-    found: &mut Row<Violation>,
+    notes: &mut Notes,
 ) -> Result<(), AllocError>
     requires valid { IsValidMembers members.now }
-    ensures { OnOk result (Gains (AreMissing profiles.now item.now members.now place.now.steps) found.old found.new) }
+    ensures { OnOk result (Noted (AreMissing profiles.now item.now members.now) notes.old notes.new) }
 {
     for attr in item.attrs.as_slice() {
-        judge_absent(profiles, attr, members, place, found)?;
+        judge_absent(profiles, attr, members, notes)?;
     }
     Ok(())
 }

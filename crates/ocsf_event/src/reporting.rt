@@ -1,30 +1,32 @@
 // The report of an event.
-ghost use Rattle.std.specs.Prelude.{◌≡◌, ◌↔◌, ◌∷◌, ◌++◌, [], IfOk, OnOk, map, Some};
+ghost use Rattle.std.specs.Prelude.{◌≡◌, ◌↔◌, ◌∷◌, ◌++◌, [], IfOk, OnOk, map, codes, Some};
 ghost use Rattle.std.specs.Option.{option_copied, option_and_then, IfSome};
 ghost use Rattle.ocsf_tree.specs.Valid.{IsValid, IsValidMembers};
 ghost use Rattle.ocsf_tree.specs.declared.place.Step.TheVariants.{Name};
 ghost use Rattle.ocsf_schema.specs.Lookups.{IsInOrder};
-ghost use Rattle.ocsf_event.specs.Gains.{Gains};
+ghost use Rattle.ocsf_event.specs.Noted.{Noted};
 ghost use Rattle.ocsf_event_rules.specs.Profiles.{named_profiles, as_text, as_list};
-ghost use Rattle.ocsf_tree.specs.Lookup.{member_at};
+ghost use Rattle.ocsf_tree.specs.declared.tree.Tree.TheVariants as tree;
 ghost use Rattle.std.specs.List.{filter_map};
 ghost use Rattle.ocsf_event_rules.specs.EventClass.{as_object, class_numbered, class_of, whole_of};
 ghost use Rattle.ocsf_event.specs.Code.{told_violation};
 ghost use Rattle.ocsf_event_rules.specs.Violations.{IsReport, whole_text};
-ghost use Rattle.ocsf_event.specs.Walk.{IsWrong, IsAmiss, IsSmall};
+ghost use Rattle.ocsf_event.specs.declared.violation.Wrong.TheVariants.{ClassUnknown};
+ghost use Rattle.ocsf_event.specs.Walk.{IsThis, IsWrong, IsSmall};
 ghost use Rattle.ocsf_bundle.specs.Stored.{Stored};
 ghost use Rattle.ocsf_rules.specs.Compilation.{compilation};
 ghost use Rattle.ocsf_rules.specs.Verdict.{IsFaultless};
 ghost use Rattle.ocsf_event_laws.specs.FilesAllow.{IsAllowedByFiles};
 
 use crate::members::whole_at;
+use crate::notes::Notes;
 use crate::order::in_order;
-use crate::violation::{Violation, Wrong, note};
-use crate::walk::judge_object;
-use crate::whole::{at_root, judge_event, profile_list, root};
+use crate::violation::{Violation, Wrong};
+use crate::walk::{Judge, judge_object};
+use crate::whole::{at_root, judge_event, profile_list};
 use ocsf_pattern::Patterns;
 use ocsf_schema::{Item, Schema};
-use ocsf_tree::{Member, Place, Row, Step, Text, Tree};
+use ocsf_tree::{Member, Row, Text, Tree};
 use std::alloc::{AllocError, Global};
 
 fn class_numbered(schema: &Schema, whole: i128) -> Option<&Item>
@@ -79,80 +81,91 @@ fn texts_of(alloc: Global, items: &[Tree]) -> Result<Row<Text>, AllocError>
     Ok(made)
 }
 
-/// The profiles that the event names.
-fn profiles_of(alloc: Global, event: &Tree) -> Result<Row<Text>, AllocError>
-    requires { IsValid event.now }
-    ensures { IfOk result (λ made. made ≡ named_profiles event.now) }
+/// The profiles that an event of these members names.
+fn profiles_of(alloc: Global, members: &[Member]) -> Result<Row<Text>, AllocError>
+    requires { IsValidMembers members.now }
+    ensures { IfOk result (λ made. made ≡ named_profiles (tree.Members members.now)) }
 {
-    match profile_list(event) {
+    match profile_list(members) {
         Some(items) => texts_of(alloc, items.as_slice()),
         None => Ok(Row::new(alloc)),
     }
 }
 
+/// An event of that class.
 fn judge_class(
-    alloc: Global,
-    schema: &Schema,
+    judge: &Judge,
     patterns: &mut Patterns,
-    event: &Tree,
     class: &Item,
     members: &[Member],
-    found: &mut Row<Violation>,
+    notes: &mut Notes,
 ) -> Result<(), AllocError>
-    requires valid { IsValid event.now }
+    requires valid { IsValidMembers members.now }
     requires order { IsInOrder class.now }
-    requires object { as_object event.now ≡ Some members.now }
-    requires class { class_of schema.now members.now ≡ Some class.now }
-    ensures { OnOk result (Gains (IsWrong schema.now event.now) found.old found.new) }
+    requires class { class_of judge.now.schema.now members.now ≡ Some class.now }
+    requires profiles { judge.now.profiles.now ≡ named_profiles (tree.Members members.now) }
+    requires root { notes.old.place.items ≡ [] }
+    ensures { OnOk result (Noted (λ place. IsWrong judge.now.schema.now (tree.Members members.now))
+        notes.old notes.new) }
 {
-    let profiles = profiles_of(alloc, event)?;
-    judge_object(
-        schema,
-        profiles.as_slice(),
-        patterns,
-        class,
-        members,
-        &root(alloc),
-        found,
-    )?;
+    judge_object(judge, patterns, class, members, notes)?;
     match class.class_uid {
-        Some(number) => judge_event(schema, event, number, members, found),
+        Some(number) => judge_event(judge.schema, number, members, notes),
         None => Ok(()),
     }
 }
 
+fn judge_classless(members: &[Member], notes: &mut Notes) -> Result<(), AllocError>
+    requires { IsValidMembers members.now }
+    ensures { OnOk result (Noted (λ place. IsThis (Name (codes "class_uid") ∷ []) ClassUnknown
+        (whole_text (whole_of (codes "class_uid") members.now))) notes.old notes.new) }
+{
+    let alloc = notes.allocator();
+    let detail = whole_text(alloc, whole_at(members, "class_uid"))?;
+    notes.put(
+        at_root(alloc, "class_uid")?,
+        Wrong::ClassUnknown,
+        detail.as_str(),
+    )
+}
+
+/// An event of these members.
+fn judge_body(
+    schema: &Schema,
+    patterns: &mut Patterns,
+    members: &[Member],
+    notes: &mut Notes,
+) -> Result<(), AllocError>
+    requires valid { IsValidMembers members.now }
+    requires root { notes.old.place.items ≡ [] }
+    ensures { OnOk result (Noted (λ place. IsWrong schema.now (tree.Members members.now)) notes.old notes.new) }
+{
+    match class_of(schema, members) {
+        Some(class) => {
+            let profiles = profiles_of(notes.allocator(), members)?;
+            let judge = Judge {
+                schema,
+                profiles: profiles.as_slice(),
+            };
+            judge_class(&judge, patterns, class, members, notes)
+        }
+        None => judge_classless(members, notes),
+    }
+}
+
 fn judge(
-    alloc: Global,
     schema: &Schema,
     patterns: &mut Patterns,
     event: &Tree,
-    found: &mut Row<Violation>,
+    notes: &mut Notes,
 ) -> Result<(), AllocError>
-    requires { IsValid event.now }
-    ensures { OnOk result (Gains (IsWrong schema.now event.now) found.old found.new) }
+    requires valid { IsValid event.now }
+    requires root { notes.old.place.items ≡ [] }
+    ensures { OnOk result (Noted (λ place. IsWrong schema.now event.now) notes.old notes.new) }
 {
     match event {
-        Tree::Members(members) => match class_of(schema, members.as_slice()) {
-            Some(class) => judge_class(
-                alloc,
-                schema,
-                patterns,
-                event,
-                class,
-                members.as_slice(),
-                found,
-            ),
-            None => {
-                let detail = whole_text(alloc, whole_at(members.as_slice(), "class_uid"))?;
-                note(
-                    found,
-                    at_root(alloc, "class_uid")?,
-                    Wrong::ClassUnknown,
-                    detail.as_str(),
-                )
-            }
-        },
-        _ => note(found, root(alloc), Wrong::WrongType, "object_t"),
+        Tree::Members(members) => judge_body(schema, patterns, members.as_slice(), notes),
+        _ => notes.add(Wrong::WrongType, "object_t"),
     }
 }
 
@@ -170,7 +183,7 @@ pub fn report(
     ensures files { IfOk result (λ made. (bundle : Stored) → IsFaultless bundle → schema.now ≡ compilation bundle
         → ((made ≡ []) ↔ IsAllowedByFiles bundle event.now)) }
 {
-    let mut found = Row::new(alloc);
-    judge(alloc, schema, patterns, event, &mut found)?;
-    in_order(alloc, found)
+    let mut notes = Notes::new(alloc);
+    judge(schema, patterns, event, &mut notes)?;
+    in_order(alloc, notes.into_found())
 }

@@ -1,23 +1,23 @@
 // What is judged by a kind: the base, the limits and the enumeration.
-ghost use Rattle.std.specs.Prelude.{◌≡◌, OnOk, IfOk, IsTrue, ◌↔◌, false, is_ok, Some};
+ghost use Rattle.std.specs.Prelude.{◌≡◌, OnOk, IfOk, IfSome, IsSomeAnd, IsTrue, ◌↔◌, false, is_ok, Some, None};
 ghost use Rattle.jiff.specs.Words.{parse_timestamp};
 ghost use Rattle.ocsf_tree.specs.Valid.{IsValid};
-ghost use Rattle.ocsf_schema.specs.Lookups.{IsInOrder};
-ghost use Rattle.ocsf_schema.specs.declared.records.Target.TheVariants as target;
 ghost use Rattle.ocsf_event.specs.declared.violation.Wrong.TheVariants as code;
-ghost use Rattle.ocsf_event_rules.specs.Conditions.{IsOfBase, IsInstant, HasPattern, enum_key, is_key};
+ghost use Rattle.ocsf_event_rules.specs.Conditions.{IsOfBase, IsInstant, HasPattern, is_key};
+ghost use Rattle.ocsf_event_rules.specs.EventClass.{kind_named};
 ghost use Rattle.ocsf_event_rules.specs.Violations.{span_text};
-ghost use Rattle.ocsf_event.specs.Gains.{Gains};
-ghost use Rattle.ocsf_event_rules.specs.Judged.{of_element};
-ghost use Rattle.ocsf_event.specs.Walk.{IsWrongHere, IsBroken, InLimit, InLimits, IsNoKeyHere};
+ghost use Rattle.ocsf_event.specs.Noted.{Noted};
+ghost use Rattle.ocsf_event.specs.Walk.{IsBroken, InLimit, InLimits, IsStrange, IsNoKeyHere, InKind};
 
 use crate::members::is_null;
-use crate::violation::{Violation, Wrong, note};
+use crate::notes::Notes;
+use crate::violation::Wrong;
+use itoa::Buffer;
 use jiff::Timestamp;
 use ocsf_kind::{Which, breaks, fits_base};
 use ocsf_pattern::Patterns;
 use ocsf_schema::{Attr, Kind, Limit, Schema};
-use ocsf_tree::{EnumMember, Place, Row, Span, Text, Tree, TryClone};
+use ocsf_tree::{EnumMember, Span, Text, Tree};
 use std::alloc::{AllocError, Global};
 
 fn is_of_base(kind: &Kind, value: &Tree) -> bool
@@ -26,22 +26,17 @@ fn is_of_base(kind: &Kind, value: &Tree) -> bool
     !is_null(value) && fits_base(kind, value)
 }
 
-fn judge_length(
-    limit: &Limit,
-    value: &Tree,
-    place: &Place,
-    found: &mut Row<Violation>,
-) -> Result<(), AllocError>
+fn judge_length(limit: &Limit, value: &Tree, notes: &mut Notes) -> Result<(), AllocError>
     requires valid { IsValid value.now }
-    ensures { OnOk result (Gains (IsBroken code.TooLong limit.now value.now place.now.steps) found.old found.new) }
+    ensures { OnOk result (Noted (IsBroken code.TooLong limit.now value.now) notes.old notes.new) }
 {
     if !breaks(limit, value, Which::MaxLen) {
         return Ok(());
     }
     match limit.max_len {
         Some(most) => {
-            let detail = most.to_string(found.allocator())?;
-            note(found, place.try_clone()?, Wrong::TooLong, detail.as_str())
+            let detail = most.to_string(notes.allocator())?;
+            notes.add(Wrong::TooLong, detail.as_str())
         }
         None => Ok(()),
     }
@@ -57,27 +52,17 @@ fn span_text(alloc: Global, span: Span) -> Result<Text, AllocError>
     Text::from_string(out)
 }
 
-fn judge_range(
-    limit: &Limit,
-    value: &Tree,
-    place: &Place,
-    found: &mut Row<Violation>,
-) -> Result<(), AllocError>
+fn judge_range(limit: &Limit, value: &Tree, notes: &mut Notes) -> Result<(), AllocError>
     requires valid { IsValid value.now }
-    ensures { OnOk result (Gains (IsBroken code.OutOfRange limit.now value.now place.now.steps) found.old found.new) }
+    ensures { OnOk result (Noted (IsBroken code.OutOfRange limit.now value.now) notes.old notes.new) }
 {
     if !breaks(limit, value, Which::Range) {
         return Ok(());
     }
     match limit.range {
         Some(span) => {
-            let detail = span_text(found.allocator(), span)?;
-            note(
-                found,
-                place.try_clone()?,
-                Wrong::OutOfRange,
-                detail.as_str(),
-            )
+            let detail = span_text(notes.allocator(), span)?;
+            notes.add(Wrong::OutOfRange, detail.as_str())
         }
         None => Ok(()),
     }
@@ -99,20 +84,14 @@ fn judge_pattern(
     patterns: &mut Patterns,
     limit: &Limit,
     value: &Tree,
-    place: &Place,
-    found: &mut Row<Violation>,
+    notes: &mut Notes,
 ) -> Result<(), AllocError>
-    ensures { OnOk result (Gains (IsBroken code.Pattern limit.now value.now place.now.steps) found.old found.new) }
+    ensures { OnOk result (Noted (IsBroken code.Pattern limit.now value.now) notes.old notes.new) }
 {
     if !is_not_found(patterns, limit, value)? {
         return Ok(());
     }
-    note(
-        found,
-        place.try_clone()?,
-        Wrong::Pattern,
-        limit.type_name.as_str(),
-    )
+    notes.add(Wrong::Pattern, limit.type_name.as_str())
 }
 
 fn is_instant(text: &str) -> bool
@@ -130,87 +109,54 @@ fn is_no_instant(limit: &Limit, value: &Tree) -> bool
     }
 }
 
-fn judge_instant(
-    limit: &Limit,
-    value: &Tree,
-    place: &Place,
-    found: &mut Row<Violation>,
-) -> Result<(), AllocError>
-    ensures { OnOk result (Gains (IsBroken code.NotAnInstant limit.now value.now place.now.steps) found.old found.new) }
+fn judge_instant(limit: &Limit, value: &Tree, notes: &mut Notes) -> Result<(), AllocError>
+    ensures { OnOk result (Noted (IsBroken code.NotAnInstant limit.now value.now) notes.old notes.new) }
 {
     if !is_no_instant(limit, value) {
         return Ok(());
     }
-    note(
-        found,
-        place.try_clone()?,
-        Wrong::NotAnInstant,
-        limit.type_name.as_str(),
-    )
+    notes.add(Wrong::NotAnInstant, limit.type_name.as_str())
 }
 
-fn judge_values(
-    limit: &Limit,
-    value: &Tree,
-    place: &Place,
-    found: &mut Row<Violation>,
-) -> Result<(), AllocError>
+fn judge_values(limit: &Limit, value: &Tree, notes: &mut Notes) -> Result<(), AllocError>
     requires valid { IsValid value.now }
-    ensures { OnOk result (Gains (IsBroken code.NotAValue limit.now value.now place.now.steps) found.old found.new) }
+    ensures { OnOk result (Noted (IsBroken code.NotAValue limit.now value.now) notes.old notes.new) }
 {
     if !breaks(limit, value, Which::Values) {
         return Ok(());
     }
-    note(
-        found,
-        place.try_clone()?,
-        Wrong::NotAValue,
-        limit.type_name.as_str(),
-    )
+    notes.add(Wrong::NotAValue, limit.type_name.as_str())
 }
 
 fn judge_limit(
     patterns: &mut Patterns,
     limit: &Limit,
     value: &Tree,
-    place: &Place,
-    found: &mut Row<Violation>,
+    notes: &mut Notes,
 ) -> Result<(), AllocError>
     requires valid { IsValid value.now }
-    ensures { OnOk result (Gains (InLimit limit.now value.now place.now.steps) found.old found.new) }
+    ensures { OnOk result (Noted (InLimit limit.now value.now) notes.old notes.new) }
 {
-    judge_length(limit, value, place, found)?;
-    judge_range(limit, value, place, found)?;
-    judge_pattern(patterns, limit, value, place, found)?;
-    judge_instant(limit, value, place, found)?;
-    judge_values(limit, value, place, found)
+    judge_length(limit, value, notes)?;
+    judge_range(limit, value, notes)?;
+    judge_pattern(patterns, limit, value, notes)?;
+    judge_instant(limit, value, notes)?;
+    judge_values(limit, value, notes)
 }
 
 fn judge_limits(
     patterns: &mut Patterns,
     limits: &[Limit],
     value: &Tree,
-    place: &Place,
-    found: &mut Row<Violation>,
+    notes: &mut Notes,
 ) -> Result<(), AllocError>
     requires valid { IsValid value.now }
-    ensures { OnOk result (Gains (InLimits limits.now value.now place.now.steps) found.old found.new) }
+    ensures { OnOk result (Noted (InLimits limits.now value.now) notes.old notes.new) }
 {
     for limit in limits {
-        judge_limit(patterns, limit, value, place, found)?;
+        judge_limit(patterns, limit, value, notes)?;
     }
     Ok(())
-}
-
-/// The key of an enumeration that the value is.
-fn enum_key(alloc: Global, value: &Tree) -> Result<Option<Text>, AllocError>
-    ensures { IfOk result (λ key. key ≡ enum_key value.now) }
-{
-    match value {
-        Tree::Whole(whole) => Ok(Some(Text::from_string(whole.to_string(alloc)?)?)),
-        Tree::Words(text) => Ok(Some(text.copy()?)),
-        _ => Ok(None),
-    }
 }
 
 fn is_key(members: &[EnumMember], name: &str) -> bool
@@ -224,49 +170,57 @@ fn is_key(members: &[EnumMember], name: &str) -> bool
     false
 }
 
-fn judge_key(
-    attr: &Attr,
-    value: &Tree,
-    place: &Place,
-    found: &mut Row<Violation>,
-) -> Result<(), AllocError>
-    ensures { OnOk result (Gains (IsNoKeyHere attr.now value.now place.now.steps) found.old found.new) }
+fn judge_word(members: &[EnumMember], word: &str, notes: &mut Notes) -> Result<(), AllocError>
+    ensures { OnOk result (Noted (IsStrange members.now word.now) notes.old notes.new) }
+{
+    if is_key(members, word) {
+        return Ok(());
+    }
+    notes.add(Wrong::EnumUnknown, word)
+}
+
+/// A whole number or a text has to be a key of the enumeration. It takes no memory where it is one.
+fn judge_key(attr: &Attr, value: &Tree, notes: &mut Notes) -> Result<(), AllocError>
+    ensures { OnOk result (Noted (IsNoKeyHere attr.now value.now) notes.old notes.new) }
 {
     if attr.members.is_empty() {
         return Ok(());
     }
-    let Some(key) = enum_key(found.allocator(), value)? else {
-        return Ok(());
-    };
-    if is_key(attr.members.as_slice(), key.as_str()) {
-        return Ok(());
+    let members = attr.members.as_slice();
+    match value {
+        Tree::Whole(whole) => {
+            let mut buffer = Buffer::new();
+            judge_word(members, buffer.format(*whole), notes)
+        }
+        Tree::Words(text) => judge_word(members, text.as_str(), notes),
+        _ => Ok(()),
     }
-    note(found, place.try_clone()?, Wrong::EnumUnknown, key.as_str())
 }
 
-/// What is judged by a kind.
-pub(crate) fn judge_simple(
-    schema: &Schema,
-    patterns: &mut Patterns,
-    attr: &Attr,
-    name: &str,
-    value: &Tree,
-    place: &Place,
-    found: &mut Row<Violation>,
-) -> Result<(), AllocError>
-    requires valid { IsValid value.now }
-    requires named { attr.now.target ≡ target.Simple name.now }
-    ensures { OnOk result (Gains (IsWrongHere schema.now (of_element attr.now value.now) place.now.steps)
-        found.old found.new) }
+/// The kind of that name, where the value is of its base.
+pub(crate) fn kind_of<'a>(schema: &'a Schema, name: &str, value: &Tree) -> Option<&'a Kind>
+    ensures known { IfSome result (λ kind. kind_named schema.now name.now ≡ Some kind.now) }
+    ensures based { IfSome result (λ kind. IsOfBase kind.now.base value.now) }
+    ensures none { result ≡ None
+        → IsSomeAnd (kind_named schema.now name.now) (λ kind. IsOfBase kind.base value.now) → ⊥ }
 {
     match schema.kind(name) {
-        Some(kind) => {
-            if !is_of_base(kind, value) {
-                return note(found, place.try_clone()?, Wrong::WrongType, name);
-            }
-            judge_limits(patterns, kind.limits.as_slice(), value, place, found)?;
-            judge_key(attr, value, place, found)
-        }
-        None => note(found, place.try_clone()?, Wrong::WrongType, name),
+        Some(kind) if is_of_base(kind, value) => Some(kind),
+        _ => None,
     }
+}
+
+/// What is judged by a kind of whose base the value is.
+pub(crate) fn judge_kind(
+    patterns: &mut Patterns,
+    kind: &Kind,
+    attr: &Attr,
+    value: &Tree,
+    notes: &mut Notes,
+) -> Result<(), AllocError>
+    requires valid { IsValid value.now }
+    ensures { OnOk result (Noted (InKind kind.now attr.now value.now) notes.old notes.new) }
+{
+    judge_limits(patterns, kind.limits.as_slice(), value, notes)?;
+    judge_key(attr, value, notes)
 }

@@ -2,237 +2,201 @@
 ghost use Rattle.std.specs.Prelude.{◌≡◌, OnOk};
 ghost use Rattle.ocsf_tree.specs.Valid.{IsValid, IsValidList, IsValidMembers};
 ghost use Rattle.ocsf_schema.specs.Lookups.{IsInOrder};
-ghost use Rattle.ocsf_event.specs.Gains.{Gains};
 ghost use Rattle.ocsf_event_rules.specs.Judged.{of_attribute, of_element, with_item};
-ghost use Rattle.ocsf_event.specs.Walk.{IsWithin, InObject, InMember, InMembers, InItems, InKnown, WantsObject};
+ghost use Rattle.ocsf_event.specs.Noted.{Noted};
+ghost use Rattle.ocsf_event.specs.Walk.{IsWithin, InObject, InMember, InMembers, InItems, InKnown};
+ghost use Rattle.ocsf_event.specs.Walk.{WantsObject, at_name_below};
 
 use crate::members::{is_in_force, is_null, judge_missing, judge_whole, object_named};
-use crate::simple::judge_simple;
-use crate::violation::{Violation, Wrong, note};
+use crate::notes::Notes;
+use crate::simple::{judge_kind, kind_of};
+use crate::violation::Wrong;
 use ocsf_pattern::Patterns;
 use ocsf_schema::{Attr, Item, Schema, Target};
-use ocsf_tree::{Member, Place, Row, Step, Text, Tree, TryClone};
+use ocsf_tree::{Member, Text, Tree};
 use std::alloc::AllocError;
+
+/// What an event is judged by.
+#[derive(Clone, Copy, Drop)]
+pub(crate) struct Judge<'a> {
+    pub schema: &'a Schema,
+    /// The profiles that the event names.
+    pub profiles: &'a [Text],
+}
 
 /// An object against the item that judges it.
 #[cycle(walk)]
 pub(crate) fn judge_object(
-    schema: &Schema,
-    profiles: &[Text],
+    judge: &Judge,
     patterns: &mut Patterns,
     item: &Item,
     members: &[Member],
-    place: &Place,
-    found: &mut Row<Violation>,
+    notes: &mut Notes,
 ) -> Result<(), AllocError>
     requires valid { IsValidMembers members.now }
     requires order { IsInOrder item.now }
-    ensures { OnOk result (Gains (InObject schema.now profiles.now (with_item item.now members.now) place.now.steps)
-        found.old found.new) }
+    ensures { OnOk result (Noted (InObject judge.now.schema.now judge.now.profiles.now
+        (with_item item.now members.now)) notes.old notes.new) }
 {
-    judge_members(schema, profiles, patterns, item, members, place, found)?;
-    judge_missing(profiles, item, members, place, found)?;
-    judge_whole(profiles, item, members, place, found)
+    judge_members(judge, patterns, item, members, notes)?;
+    judge_missing(judge.profiles, item, members, notes)?;
+    judge_whole(judge.profiles, item, members, notes)
 }
 
 #[cycle(walk)]
 fn judge_members(
-    schema: &Schema,
-    profiles: &[Text],
+    judge: &Judge,
     patterns: &mut Patterns,
     item: &Item,
     members: &[Member],
-    place: &Place,
-    found: &mut Row<Violation>,
+    notes: &mut Notes,
 ) -> Result<(), AllocError>
     requires valid { IsValidMembers members.now }
     requires order { IsInOrder item.now }
-    ensures { OnOk result (Gains (InMembers schema.now profiles.now item.now place.now.steps members.now)
-        found.old found.new) }
+    ensures { OnOk result (Noted (InMembers judge.now.schema.now judge.now.profiles.now item.now members.now)
+        notes.old notes.new) }
 {
     for member in members {
-        judge_member(schema, profiles, patterns, item, member, place, found)?;
+        judge_member(judge, patterns, item, member, notes)?;
     }
     Ok(())
 }
 
 #[cycle(walk)]
 fn judge_member(
-    schema: &Schema,
-    profiles: &[Text],
+    judge: &Judge,
     patterns: &mut Patterns,
     item: &Item,
     member: &Member,
-    place: &Place,
-    found: &mut Row<Violation>,
+    notes: &mut Notes,
 ) -> Result<(), AllocError>
     requires valid { IsValid member.now.value }
     requires order { IsInOrder item.now }
-    ensures { OnOk result (Gains (InMember schema.now profiles.now item.now place.now.steps member.now)
-        found.old found.new) }
+    ensures { OnOk result (Noted (InMember judge.now.schema.now judge.now.profiles.now item.now member.now)
+        notes.old notes.new) }
 {
     if is_null(&member.value) {
         return Ok(());
     }
-    let below = place.below(Step::Name(member.name.copy()?))?;
-    match schema.attr(item, member.name.as_str()) {
-        Some(attr) => judge_known(
-            schema,
-            profiles,
-            patterns,
-            attr,
-            &member.value,
-            below,
-            found,
-        ),
+    match judge.schema.attr(item, member.name.as_str()) {
+        Some(attr) => judge_known(judge, patterns, attr, member, notes),
         None => {
             if item.attrs.is_empty() {
                 return Ok(());
             }
-            note(found, below, Wrong::AttributeUnknown, "")
+            notes.add_at(&member.name, Wrong::AttributeUnknown, "")
         }
     }
 }
 
+/// A member against the attribute of its name.
 #[cycle(walk)]
 fn judge_known(
-    schema: &Schema,
-    profiles: &[Text],
+    judge: &Judge,
     patterns: &mut Patterns,
     attr: &Attr,
-    value: &Tree,
-    place: Place,
-    found: &mut Row<Violation>,
+    member: &Member,
+    notes: &mut Notes,
 ) -> Result<(), AllocError>
-    requires valid { IsValid value.now }
-    ensures { OnOk result (Gains (InKnown schema.now profiles.now attr.now value.now place.steps) found.old found.new) }
+    requires valid { IsValid member.now.value }
+    ensures { OnOk result (Noted (λ place. InKnown judge.now.schema.now judge.now.profiles.now attr.now
+        member.now.value (at_name_below place member.now.name)) notes.old notes.new) }
 {
-    if is_in_force(profiles, attr) {
-        return judge_attribute(schema, profiles, patterns, attr, value, &place, found);
+    if is_in_force(judge.profiles, attr) {
+        notes.enter_member(&member.name)?;
+        judge_attribute(judge, patterns, attr, &member.value, notes)?;
+        notes.leave();
+        return Ok(());
     }
     match &attr.profile {
-        Some(profile) => note(found, place, Wrong::ProfileInactive, profile.as_str()),
+        Some(profile) => notes.add_at(&member.name, Wrong::ProfileInactive, profile.as_str()),
         None => Ok(()),
     }
 }
 
 #[cycle(walk)]
 fn judge_attribute(
-    schema: &Schema,
-    profiles: &[Text],
+    judge: &Judge,
     patterns: &mut Patterns,
     attr: &Attr,
     value: &Tree,
-    place: &Place,
-    found: &mut Row<Violation>,
+    notes: &mut Notes,
 ) -> Result<(), AllocError>
     requires valid { IsValid value.now }
-    ensures { OnOk result (Gains (IsWithin schema.now profiles.now (of_attribute attr.now value.now) place.now.steps)
-        found.old found.new) }
+    ensures { OnOk result (Noted (IsWithin judge.now.schema.now judge.now.profiles.now
+        (of_attribute attr.now value.now)) notes.old notes.new) }
 {
     if !attr.is_array {
-        return judge_single(schema, profiles, patterns, attr, value, place, found);
+        return judge_single(judge, patterns, attr, value, notes);
     }
     match value {
-        Tree::List(items) => {
-            judge_items(
-                schema,
-                profiles,
-                patterns,
-                attr,
-                items.as_slice(),
-                place,
-                found,
-            )
-        }
-        _ => note(found, place.try_clone()?, Wrong::WrongType, "array"),
+        Tree::List(items) => judge_items(judge, patterns, attr, items.as_slice(), notes),
+        _ => notes.add(Wrong::WrongType, "array"),
     }
 }
 
 #[cycle(walk)]
 fn judge_items(
-    schema: &Schema,
-    profiles: &[Text],
+    judge: &Judge,
     patterns: &mut Patterns,
     attr: &Attr,
     items: &[Tree],
-    place: &Place,
-    found: &mut Row<Violation>,
+    notes: &mut Notes,
 ) -> Result<(), AllocError>
     requires valid { IsValidList items.now }
-    ensures { OnOk result (Gains (InItems schema.now profiles.now attr.now place.now.steps items.now)
-        found.old found.new) }
+    ensures { OnOk result (Noted (InItems judge.now.schema.now judge.now.profiles.now attr.now items.now)
+        notes.old notes.new) }
 {
     for (index, item) in items.iter().enumerate() {
-        let below = place.below(Step::At(index as u64))?;
-        judge_single(schema, profiles, patterns, attr, item, &below, found)?;
+        notes.enter_item(index as u64)?;
+        judge_single(judge, patterns, attr, item, notes)?;
+        notes.leave();
     }
     Ok(())
 }
 
 #[cycle(walk)]
 fn judge_single(
-    schema: &Schema,
-    profiles: &[Text],
+    judge: &Judge,
     patterns: &mut Patterns,
     attr: &Attr,
     value: &Tree,
-    place: &Place,
-    found: &mut Row<Violation>,
+    notes: &mut Notes,
 ) -> Result<(), AllocError>
     requires valid { IsValid value.now }
-    ensures { OnOk result (Gains (IsWithin schema.now profiles.now (of_element attr.now value.now) place.now.steps)
-        found.old found.new) }
+    ensures { OnOk result (Noted (IsWithin judge.now.schema.now judge.now.profiles.now
+        (of_element attr.now value.now)) notes.old notes.new) }
 {
     match &attr.target {
-        Target::Simple(name) => judge_simple(
-            schema,
-            patterns,
-            attr,
-            name.as_str(),
-            value,
-            place,
-            found,
-        ),
-        Target::Object(_) | Target::Anything => {
-            judge_inside(schema, profiles, patterns, attr, value, place, found)
-        }
+        Target::Simple(name) => match kind_of(judge.schema, name.as_str(), value) {
+            Some(kind) => judge_kind(patterns, kind, attr, value, notes),
+            None => notes.add(Wrong::WrongType, name.as_str()),
+        },
+        Target::Object(_) | Target::Anything => judge_inside(judge, patterns, attr, value, notes),
     }
 }
 
 #[cycle(walk)]
 fn judge_inside(
-    schema: &Schema,
-    profiles: &[Text],
+    judge: &Judge,
     patterns: &mut Patterns,
     attr: &Attr,
     value: &Tree,
-    place: &Place,
-    found: &mut Row<Violation>,
+    notes: &mut Notes,
 ) -> Result<(), AllocError>
     requires valid { IsValid value.now }
     requires wants { WantsObject attr.now.target }
-    ensures { OnOk result (Gains (IsWithin schema.now profiles.now (of_element attr.now value.now) place.now.steps)
-        found.old found.new) }
+    ensures { OnOk result (Noted (IsWithin judge.now.schema.now judge.now.profiles.now
+        (of_element attr.now value.now)) notes.old notes.new) }
 {
     match value {
-        Tree::Members(members) => match object_named(schema, &attr.target)? {
-            Some(item) => {
-                judge_object(
-                    schema,
-                    profiles,
-                    patterns,
-                    item,
-                    members.as_slice(),
-                    place,
-                    found,
-                )
-            }
+        Tree::Members(members) => match object_named(judge.schema, &attr.target)? {
+            Some(item) => judge_object(judge, patterns, item, members.as_slice(), notes),
             None => match &attr.target {
-                Target::Object(_) => note(found, place.try_clone()?, Wrong::WrongType, "object_t"),
+                Target::Object(_) => notes.add(Wrong::WrongType, "object_t"),
                 Target::Anything | Target::Simple(_) => Ok(()),
             },
         },
-        _ => note(found, place.try_clone()?, Wrong::WrongType, "object_t"),
+        _ => notes.add(Wrong::WrongType, "object_t"),
     }
 }

@@ -1,11 +1,9 @@
-use Rattle.std.proofs.Common.{◌≡◌, [], None, true, sym, ◌∙◌, subst, rules}
+use Rattle.std.proofs.Common.{◌≡◌, None, true, rules}
 use Rattle.ocsf_tree.specs.declared.attribute.Requirement.TheVariants.{Required}
-use Rattle.ocsf_event.specs.declared.violation.Wrong.TheVariants as code
 use Rattle.ocsf_event_rules.specs.Profiles.{is_in_force}
 use Rattle.ocsf_event_rules.specs.EventClass.{value_of}
-use Rattle.ocsf_event.specs.Gains.{Gains}
-use Rattle.ocsf_event.specs.Walk.{IsThis, at_name_below}
 use Rattle.ocsf_event.proofs.GainedParts.{on_ok, gains_missing}
+use Rattle.ocsf_event.proofs.Noted.{noted_by}
 use Rattle.ocsf_event.proofs.members.judge_absent.Goals as goal
 
 pub returns-then-is_absent : goal.returns-then-is_absent
@@ -14,7 +12,5 @@ returns-then-is_absent c =
     let none : value_of attr.name c.args.members.now ≡ None = search rules in
     let force : is_in_force c.args.profiles.now attr ≡ true = search rules in
     let wanted : attr.requirement ≡ Required = search rules in
-    let at : c.in_ok-below.below.steps ≡ at_name_below c.args.place.now.steps attr.name = search rules in
-    on_ok c.note.result c.note.ensures
-    (λ g. gains_missing c.args.profiles.now c.args.members.now c.args.place.now.steps attr _ _ none force wanted
-    (subst (λ p. Gains (IsThis p code.RequiredMissing []) c.args.found.now c.note.new.found) at g))
+    on_ok c.add_at.result c.add_at.ensures
+    (λ n. noted_by (λ g. gains_missing c.args.profiles.now c.args.members.now c.args.notes.now.place.items attr _ _ none force wanted g) n)

@@ -1,15 +1,15 @@
-use Rattle.std.proofs.Common.{◌≡◌, length, sym, ◌∙◌, subst, arith, rules}
+use Rattle.std.proofs.Common.{◌≡◌, length, subst, arith, rules}
 use Rattle.std.specs.List.{join_with_byte}
 use Rattle.std.proofs.lemmas.Grind.{common_steps}
-use Rattle.ocsf_tree.specs.declared.place.Place.{Place}
 use Rattle.ocsf_event.specs.declared.violation.Wrong.TheVariants as code
 use Rattle.ocsf_event_rules.specs.Conditions.{listed_in_force, count_present}
 use Rattle.ocsf_event_rules.specs.Judged.{with_item}
 use Rattle.ocsf_event_rules.specs.Violations.{comma}
-use Rattle.ocsf_event.specs.Gains.{Gains}
+use Rattle.ocsf_event.specs.Noted.{Noted}
 use Rattle.ocsf_event.specs.Walk.{IsThis}
 use Rattle.ocsf_event.proofs.GainedParts.{on_ok}
 use Rattle.ocsf_event.proofs.Constraints.{gains_not_one, not_one}
+use Rattle.ocsf_event.proofs.Noted.{noted_by}
 use Rattle.ocsf_event.proofs.members.judge_just_one.Goals as goal
 
 pub returns : goal.returns
@@ -20,7 +20,6 @@ returns c =
     let some : length (listed_in_force c.args.profiles.now c.args.item.now c.args.item.now.just_one) ≡ 0 → ⊥ = λ e. grind (arith, common_steps) in
     let given : count_present c.args.members.now (listed_in_force c.args.profiles.now c.args.item.now c.args.item.now.just_one) ≡ 1 → ⊥ = λ e. grind (arith, common_steps) in
     let detail : c.as_str.result.now ≡ join_with_byte comma c.args.item.now.just_one = search rules in
-    on_ok c.note.result c.note.ensures
-    (λ g. gains_not_one c.args.profiles.now (with_item item members) c.args.place.now.steps _ _ (not_one members listed some given)
-    (subst (λ d. Gains (IsThis c.args.place.now.steps code.JustOne d) c.args.found.now c.note.new.found) detail
-    (subst (λ (p : Place). Gains (IsThis p.steps code.JustOne c.as_str.result.now) c.args.found.now c.note.new.found) c.in_ok-try_clone.ensures.equal g)))
+    on_ok c.add.result c.add.ensures
+    (λ n. noted_by (λ g. gains_not_one c.args.profiles.now (with_item item members) c.args.notes.now.place.items _ _ (not_one members listed some given) g)
+    (subst (λ d. Noted (λ place. IsThis place code.JustOne d) c.args.notes.now c.add.new.self) detail n))

@@ -1,21 +1,18 @@
-use Rattle.std.proofs.Common.{◌≡◌, true≢false, Some, sym, ◌∙◌, subst, rules}
+use Rattle.std.proofs.Common.{◌≡◌, true≢false, Some, sym, ◌∙◌, rules}
 use Rattle.ocsf_event_rules.specs.Violations.{span_text}
 use Rattle.std.specs.Option.{option_map}
 use Rattle.std.proofs.lemmas.Option.{same_Some}
-use Rattle.ocsf_tree.specs.declared.place.Place.{Place}
 use Rattle.ocsf_event.specs.declared.violation.Wrong.TheVariants as code
-use Rattle.ocsf_event.specs.Gains.{Gains}
-use Rattle.ocsf_event.specs.Walk.{IsThis}
 use Rattle.ocsf_event.proofs.GainedParts.{on_ok}
 use Rattle.ocsf_event.proofs.Kinded.{gains_broken}
+use Rattle.ocsf_event.proofs.Noted.{noted_by}
 use Rattle.ocsf_event.proofs.simple.judge_range.Goals as goal
 
-pub returns-in_ok-try_clone-in-Some : goal.returns-in_ok-try_clone-in-Some
-returns-in_ok-try_clone-in-Some c =
+pub returns-in_ok-detail-in-Some : goal.returns-in_ok-detail-in-Some
+returns-in_ok-detail-in-Some c =
     let detail = c.as_str.result.now in
     let is : option_map span_text c.args.limit.now.range ≡ Some c.as_str.result.now = search rules in
-    on_ok c.note.result c.note.ensures
-    (λ g. gains_broken c.args.limit.now c.args.value.now c.args.place.now.steps _ _ code.OutOfRange detail
+    on_ok c.add.result c.add.ensures
+    (λ n. noted_by (λ g. gains_broken c.args.limit.now c.args.value.now c.args.notes.now.place.items _ _ code.OutOfRange detail
     (λ d w. same_Some d detail (sym w.1 ∙ is))
-    (λ m. true≢false (sym c.if-not-breaks.false ∙ c.breaks.ensures.1 m), is)
-    (subst (λ (p : Place). Gains (IsThis p.steps code.OutOfRange detail) c.args.found.now c.note.new.found) c.in_ok-try_clone-in-Some.ensures.equal g))
+    (λ m. true≢false (sym c.if-not-breaks.false ∙ c.breaks.ensures.1 m), is) g) n)
